@@ -1,0 +1,5 @@
+pub mod Limits
+pub mod Names
+pub mod Glyphs
+pub mod Spelled
+pub mod Order
