@@ -39,4 +39,4 @@ has-two-dots-in-a-row (a ∷ b ∷ bs) = (dot a && dot b) || has-two-dots-in-a-r
 unfoldable pub is-name : Bytes → Bool
 is-name s =
     (leb 1 (length s) && leb (length s) name-max)
-      && (not (starts-with-dot s) && (allowed s && (not (ends-with-dot s) && not (has-two-dots-in-a-row s))))
+    && (not (starts-with-dot s) && (allowed s && (not (ends-with-dot s) && not (has-two-dots-in-a-row s))))

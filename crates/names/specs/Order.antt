@@ -22,8 +22,9 @@ name-order a b = byte-order (spelled a) (spelled b)
 -- the order is total, so that names are keys of a map
 abbrev pub names-ordered : Total (λ (a b : Name) (r : Ordering). r ≡ name-order a b)
 names-ordered = record {
-    cmp = name-order;
-    says = λ a b r h. h;
-    flip = λ a b. lexical unsigned .flip (spelled a) (spelled b);
-    trans = λ a b c. lexical unsigned .trans (spelled a) (spelled b) (spelled c);
-    alike = λ a b c. lexical unsigned .alike (spelled a) (spelled b) (spelled c) }
+  cmp = name-order;
+  says = λ a b r h. h;
+  flip = λ a b. lexical unsigned .flip (spelled a) (spelled b);
+  trans = λ a b c. lexical unsigned .trans (spelled a) (spelled b) (spelled c);
+  alike = λ a b c. lexical unsigned .alike (spelled a) (spelled b) (spelled c);
+}

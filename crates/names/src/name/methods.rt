@@ -23,7 +23,10 @@ impl Name {
         let len = bytes.len();
         let mut front = [0; NAME_MAX];
         front[0..len].copy_from_slice(bytes);
-        Some(Name { bytes: front, len: len as u8 })
+        Some(Name {
+            bytes: front,
+            len: len as u8,
+        })
     }
 
     /// The bytes of the name.

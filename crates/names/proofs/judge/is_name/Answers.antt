@@ -20,11 +20,12 @@ returns-in-Other c =
 
 pub loop-b-again : need.loop-b-again
 loop-b-again c =
-    elim (c .match-glyph-of .came)
-    [ in-Plain w ↦
-        rw (w .after-dot-is) (sym (next-plain _ (c .loop-b .after-dot) _ (c .loop-b-test .taken) (w .in-Plain .ensures tt)) ∙ c .loop-b .inv)
-    | in-Dot·else-after-dot w ↦
-        rw (w .after-dot-is) (sym (next-dot _ (c .loop-b .after-dot) _ (c .loop-b-test .taken) (w .in-Dot .ensures tt) (w .if-after-dot .left)) ∙ c .loop-b .inv) ]
+    elim (c .match-glyph-of .came) [
+      | in-Plain w ↦
+          rw (w .after-dot-is) (sym (next-plain _ (c .loop-b .after-dot) _ (c .loop-b-test .taken) (w .in-Plain .ensures tt)) ∙ c .loop-b .inv)
+      | in-Dot·else-after-dot w ↦
+          rw (w .after-dot-is) (sym (next-dot _ (c .loop-b .after-dot) _ (c .loop-b-test .taken) (w .in-Dot .ensures tt) (w .if-after-dot .left)) ∙ c .loop-b .inv)
+    ]
 
 pub returns : need.returns
 returns c =

@@ -19,9 +19,10 @@ cast-result c =
 
 pub ghost-result : need.ghost-result
 ghost-result c =
-    let l = sym (c .if-not-is-name .ensures tt) in
-    ( lawful-short (c .args .bytes .now) l
-    , (ap is-name (take-at (c .copy-from-slice .last .self) _ _ (ap length (c .copy-from-slice .ensures .after)) ∙ c .copy-from-slice .ensures .after) ∙ l, tt) )
+    let l = sym (c .if-not-is-name .ensures tt) in (
+      lawful-short (c .args .bytes .now) l,
+      (ap is-name (take-at (c .copy-from-slice .last .self) _ _ (ap length (c .copy-from-slice .ensures .after)) ∙ c .copy-from-slice .ensures .after) ∙ l, tt),
+    )
 
 pub returns : need.returns
 returns c = take-at (c .copy-from-slice .last .self) _ _ (ap length (c .copy-from-slice .ensures .after)) ∙ c .copy-from-slice .ensures .after
