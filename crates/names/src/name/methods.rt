@@ -1,5 +1,6 @@
 ghost use mathlib.Core.Path.{_≡_};
 ghost use mathlib.Core.Bool.{true, false};
+ghost use lib.Chars.{codes};
 ghost use Rattle.std.specs.Options.{Cases};
 ghost use Rattle.std.specs.declared.option.Option.the-variants.{Some as Found};
 ghost use Rattle.names.specs.Names.{is-name as lawful};
@@ -13,6 +14,15 @@ use std::fmt;
 use std::str;
 
 impl Name {
+    /// The name `x`, for a place that holds no name of its own yet.
+    pub fn filler() -> Name
+        ensures { λ r. ⌜ spelled r ≡ codes "x" ⌝ }
+    {
+        let mut bytes = [0; NAME_MAX];
+        bytes[0] = b'x';
+        Name { bytes, len: 1 }
+    }
+
     /// The name that the bytes spell, if they are one.
     pub fn new(bytes: &[u8]) -> Option<Name>
         ensures { λ r. ⌜ Cases r (lawful (now (bytes .entry)) ≡ false) (λ n. spelled n ≡ now (bytes .entry)) ⌝ }
