@@ -1,0 +1,7 @@
+pub mod Lines
+pub mod Words
+pub mod Tree
+pub mod Candidates
+pub mod Search
+pub mod Pages
+pub mod Made
