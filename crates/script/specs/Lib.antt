@@ -5,3 +5,4 @@ pub mod Candidates
 pub mod Search
 pub mod Pages
 pub mod Made
+pub mod View

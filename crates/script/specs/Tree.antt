@@ -112,11 +112,11 @@ asking w n es = known w n (isSome (entered Needed n es)) (isSome (entered Absent
 
 -- a word with a name behind it
 abbrev pub named : Word → Entries → Bytes → Bytes → Does
+named Copy es page n = copying page (entered Needed n es)
 named Need es page n = asking Need n es
 named IfCreate es page n = asking IfCreate n es
 named IfHas es page n = asking IfHas n es
-named Say es page n = adding page (n ++ (10 ∷ []))
-named Copy es page n = copying page (entered Needed n es)
+named Say es page n = asking Say n es
 
 -- a word by the form of its rest
 abbrev pub formed : Word → Rest → Entries → Bytes → Bytes → Does

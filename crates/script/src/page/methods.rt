@@ -1,12 +1,15 @@
 ghost use mathlib.Core.Path.{_≡_};
 ghost use mathlib.Core.Bool.{cond};
 ghost use mathlib.Core.List.{[], _++_};
-ghost use Prim.Native.Nat.{ℕ, _+_, _≤_};
+ghost use Prim.Native.Nat.{ℕ, _+_, _≤_, _<_};
 ghost use lib.Dec.{leb};
 ghost use lib.ListN.{length};
+ghost use Rattle.std.specs.Options.{Cases};
 ghost use Rattle.names.specs.Limits.{page-max};
+ghost use Rattle.script.specs.Lines.{filled as filling};
 ghost use Rattle.script.specs.Pages.{content};
 use super::Page;
+use crate::lines::fill;
 use crate::lines::put;
 use names::limits::PAGE_MAX;
 
@@ -28,6 +31,17 @@ impl Page {
         };
         self.len = end as u16;
         true
+    }
+
+    /// The text with the stem in place of each `%`, if that is not too long.
+    pub fn filled(text: &[u8], stem: &[u8]) -> Option<Page>
+        ensures { λ r. ⌜ Cases r (page-max < length (filling (now (stem .entry)) (now (text .entry)))) (λ p. content p ≡ filling (now (stem .entry)) (now (text .entry))) ⌝ }
+    {
+        let mut bytes = [0; PAGE_MAX];
+        let Some(len) = fill(&mut bytes, text, stem) else {
+            return None;
+        };
+        Some(Page { bytes, len: len as u16 })
     }
 
     /// The bytes of the page.
