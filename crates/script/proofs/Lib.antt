@@ -1,3 +1,5 @@
 pub mod Texts
 pub mod Looks
 pub mod Runs
+pub mod Cuts
+pub mod Stems

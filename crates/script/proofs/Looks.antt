@@ -28,7 +28,7 @@ use Rattle.script.specs.declared.word.Spelled.{Spelled}
 use Rattle.script.specs.declared.word.Spelled.the-variants.{Unknown, Known}
 
 module _ (k : Kind) (n : Bytes) (es : List Entry) (i : ℕ) (h : i < length es) (e : Entry) (at-i : e ≡ getD es i e) (t : Bool)
-  (is : t ≡ (same-kind (e .kind) k && sameBytes (spelled (e .name)) n)) where
+    (is : t ≡ (same-kind (e .kind) k && sameBytes (spelled (e .name)) n)) where
   entry-at : entered k n (map seen (drop i es)) ≡ cond t (Some (content (e .bytes))) (entered k n (map seen (drop (i + 1) es)))
   entry-at =
       at-drop-more (λ xs. entered k n (map seen xs)) es i e h
@@ -46,7 +46,7 @@ found-in s [] = Unknown
 found-in s (e ∷ es) = cond (sameBytes (e .text .now) s) (Known (e .word) (e .rest)) (found-in s es)
 
 module _ (items : List Row) (i : ℕ) (d : Row) (s : Bytes) (h : i < length items) (r : Bool)
-         (m : Matches (λ (a b : ℕ) (t : Bool). Decides t (a ≡ b)) (getD items i d .text .now) s r) where
+    (m : Matches (λ (a b : ℕ) (t : Bool). Decides t (a ≡ b)) (getD items i d .text .now) s r) where
   same : sameBytes (getD items i d .text .now) s ≡ r
   same = same-from-decides _ _ (sameBytes-decides _ s) (matches-decides _ s r m)
 

@@ -37,7 +37,7 @@ shorter-at c bs true h = omega arith
 shorter-at c bs false h = h
 
 first-at : (b : ℕ) (bs : Bytes) (t : Bool) → on-first b (lines bs) ≡ (b ∷ before 10 bs) ∷ lines (after 10 bs)
-  → cond t ([] ∷ lines bs) (on-first b (lines bs)) ≡ cond t [] (b ∷ before 10 bs) ∷ lines (cond t bs (after 10 bs))
+    → cond t ([] ∷ lines bs) (on-first b (lines bs)) ≡ cond t [] (b ∷ before 10 bs) ∷ lines (cond t bs (after 10 bs))
 first-at b bs true h = refl
 first-at b bs false h = h
 
@@ -47,12 +47,12 @@ first-line (b ∷ []) h = first-at b [] (eqb b 10) refl
 first-line (b ∷ (c ∷ cs)) h = first-at b (c ∷ cs) (eqb b 10) (ap (on-first b) (first-line (c ∷ cs) (omega arith)))
 
 module _ (stem : Bytes) (m : Mode) (l : ℕ) (es : Entries) (page rest line behind : Bytes) (h : 0 < length rest)
-  (a : line ≡ before 10 rest) (b : behind ≡ after 10 rest) where
+    (a : line ≡ before 10 rest) (b : behind ≡ after 10 rest) where
   pub skipped : m ≡ Skipping → run stem m l es page (lines rest) ≡ run stem Running (l + 1) es page (lines behind)
   skipped e = rw (e, first-line rest h, b)
 
   pub ran : m ≡ Running → (w : Spelled) (text : Bytes) → w ≡ spelled-by line → text ≡ rest-of stem line
-    → run stem m l es page (lines rest) ≡ goes l es page (λ m fs p. run stem m (l + 1) fs p (lines behind)) (worded w es page text)
+      → run stem m l es page (lines rest) ≡ goes l es page (λ m fs p. run stem m (l + 1) fs p (lines behind)) (worded w es page text)
   ran e w text f g = rw (e, first-line rest h, ← a, b, g, f)
 
 pub went-as : (o : Option Step) (p : Point) (t u : Tree) → u ≡ t → Went o p t → Went o p u

@@ -14,7 +14,7 @@ use Rattle.script.specs.Lines.{before, after, piece, filled}
 module _ (at : ℕ) (xs : Bytes) (i : ℕ) (h : i < length xs) where
   -- the byte at i is no `at`
   pub before-more : (getD xs i 0 ≡ at → ⊥) → before at xs ≡ take i xs ++ before at (drop i xs)
-    → before at xs ≡ take (i + 1) xs ++ before at (drop (i + 1) xs)
+      → before at xs ≡ take (i + 1) xs ++ before at (drop (i + 1) xs)
   before-more n e =
       let s = at-drop-more (before at) xs i 0 h in
       let q = ne-eqb (getD xs i 0) at n in
@@ -32,7 +32,7 @@ module _ (at : ℕ) (xs : Bytes) (i : ℕ) (h : i < length xs) where
 
 -- vs was written before the piece p of the byte at i, and ws with it
 module _ (stem xs : Bytes) (i : ℕ) (h : i < length xs) (p vs : Bytes) (is : p ≡ piece stem (getD xs i 0))
-  (inv : vs ++ filled stem (drop i xs) ≡ filled stem xs) where
+    (inv : vs ++ filled stem (drop i xs) ≡ filled stem xs) where
   step : filled stem xs ≡ (vs ++ p) ++ filled stem (drop (i + 1) xs)
   step =
       sym inv

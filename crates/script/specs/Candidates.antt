@@ -14,7 +14,7 @@ pub record Candidate : Type 0 where
   pub stem : Bytes
 
 abbrev pub ends-in : Bytes → Bytes → Bool
-ends-in tail n = sameBytes (drop (length n - length tail) n) tail
+ends-in tail n = sameBytes tail (drop (length n - length tail) n)
 
 -- what precedes and what follows the last dot
 abbrev pub cut-more : ℕ → Bytes → Option (Bytes × Bytes) → Option (Bytes × Bytes)

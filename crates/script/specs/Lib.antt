@@ -6,3 +6,4 @@ pub mod Search
 pub mod Pages
 pub mod Made
 pub mod View
+pub mod Searched

@@ -17,8 +17,8 @@ seeking [] es = stop NotThere 0
 seeking (c ∷ cs) es =
     let again = seeking cs es in
     cond (isSome (entered Absent (c .script) es)) again
-      (ask Script (c .script) 0 (unless-full (full es) 0 (seeking cs (with-entry es Absent (c .script) []))) (wanted-unless (full es))
-        (λ b. run (c .stem) Running 1 (with-entry es Script (c .script) []) [] (lines b)))
+    (ask Script (c .script) 0 (unless-full (full es) 0 (seeking cs (with-entry es Absent (c .script) []))) (wanted-unless (full es))
+    (λ b. run (c .stem) Running 1 (with-entry es Script (c .script) []) [] (lines b)))
 
 abbrev pub whole-run : Bytes → Tree
 whole-run t = seeking (candidates t) []

@@ -163,7 +163,7 @@ goes l es page next (add t) = next Running es (page ++ t)
 goes l es page next (fail f) = stop f l
 goes l es page next (query w n) =
     ask Needed n l (lacking w (full es) l (next (mode-after w) (with-entry es Absent n []) page)) (offer w (full es))
-      (λ b. next Running (with-entry es Needed n b) page)
+    (λ b. next Running (with-entry es Needed n b) page)
 
 -- the run of the lines, the first of which has number l; a skipped line is not looked at
 abbrev pub run : Bytes → Mode → ℕ → Entries → Bytes → List Bytes → Tree

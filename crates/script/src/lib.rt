@@ -1,9 +1,12 @@
+pub mod candidates;
 pub mod entry;
 pub mod lines;
 pub mod page;
 pub mod run;
 pub mod word;
 
+pub use candidates::Candidate;
+pub use candidates::Candidates;
 pub use entry::Entries;
 pub use entry::Kind;
 pub use page::Page;

@@ -39,7 +39,11 @@ fn piece_at<'a>(text: &'a [u8], i: usize, stem: &'a [u8]) -> &'a [u8]
     requires { ⌜ i < length (now text) ⌝ }
     ensures { λ r. ⌜ now r ≡ piece (now (stem .entry)) (getD (now (text .entry)) i 0) ⌝ }
 {
-    if text[i] == b'%' { stem } else { &text[i..i + 1] }
+    if text[i] == b'%' {
+        stem
+    } else {
+        &text[i..i + 1]
+    }
 }
 
 /// Writes the text with the stem in place of each `%`, and says how long that is; `None` where there is no room.

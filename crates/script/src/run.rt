@@ -27,8 +27,8 @@ pub struct Run<'a> {
 /// What a run asks: what this name is, for the word that named it.
 #[derive(Clone, Copy)]
 pub struct Question {
-    word: Word,
-    name: Name,
+    pub word: Word,
+    pub name: Name,
 }
 
 /// Where a run stops: at its end, at a fault, or to ask what a name is.

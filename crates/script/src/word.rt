@@ -44,11 +44,31 @@ pub struct Row {
 }
 
 const WORDS: [Row; 5] = [
-    Row { text: b"need", word: Word::Need, rest: Rest::Name },
-    Row { text: b"ifcreate", word: Word::IfCreate, rest: Rest::Name },
-    Row { text: b"ifhas", word: Word::IfHas, rest: Rest::Name },
-    Row { text: b"say", word: Word::Say, rest: Rest::Text },
-    Row { text: b"copy", word: Word::Copy, rest: Rest::Name },
+    Row {
+        text: b"need",
+        word: Word::Need,
+        rest: Rest::Name,
+    },
+    Row {
+        text: b"ifcreate",
+        word: Word::IfCreate,
+        rest: Rest::Name,
+    },
+    Row {
+        text: b"ifhas",
+        word: Word::IfHas,
+        rest: Rest::Name,
+    },
+    Row {
+        text: b"say",
+        word: Word::Say,
+        rest: Rest::Text,
+    },
+    Row {
+        text: b"copy",
+        word: Word::Copy,
+        rest: Rest::Name,
+    },
 ];
 
 /// The word that these bytes spell, with the form of its rest.

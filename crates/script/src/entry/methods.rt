@@ -22,7 +22,9 @@ impl Kind {
         ensures { λ r. ⌜ r ≡ same-kind self other ⌝ }
     {
         match (self, other) {
-            (Kind::Script, Kind::Script) | (Kind::Needed, Kind::Needed) | (Kind::Absent, Kind::Absent) => true,
+            (Kind::Script, Kind::Script)
+            | (Kind::Needed, Kind::Needed)
+            | (Kind::Absent, Kind::Absent) => true,
             (_, _) => false,
         }
     }
@@ -54,8 +56,15 @@ impl Entries {
     pub fn new() -> Entries
         ensures { λ r. ⌜ entries r ≡ [] ⌝ }
     {
-        let none = Entry { kind: Kind::Absent, name: Name::filler(), bytes: Page::new() };
-        Entries { slots: [none; ENTRIES_MAX], count: 0 }
+        let none = Entry {
+            kind: Kind::Absent,
+            name: Name::filler(),
+            bytes: Page::new(),
+        };
+        Entries {
+            slots: [none; ENTRIES_MAX],
+            count: 0,
+        }
     }
 
     /// Have all the entries been made that a record can hold?

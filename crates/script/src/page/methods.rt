@@ -18,7 +18,10 @@ impl Page {
     pub fn new() -> Page
         ensures { λ r. ⌜ content r ≡ [] ⌝ }
     {
-        Page { bytes: [0; PAGE_MAX], len: 0 }
+        Page {
+            bytes: [0; PAGE_MAX],
+            len: 0,
+        }
     }
 
     /// Adds the text, or says that there is no room for it and changes nothing.
@@ -41,7 +44,10 @@ impl Page {
         let Some(len) = fill(&mut bytes, text, stem) else {
             return None;
         };
-        Some(Page { bytes, len: len as u16 })
+        Some(Page {
+            bytes,
+            len: len as u16,
+        })
     }
 
     /// The bytes of the page.

@@ -49,7 +49,11 @@ impl<'a> Run<'a> {
         ensures tells { λ r. ⌜ Plays (now (self .entry)) (now (self .exit)) r (adding (content (now (self .entry) .page)) (now (text .entry))) ⌝ }
         ensures keeps { λ _. ⌜ now (now (self .exit) .rest) ≡ now (now (self .entry) .rest) ⌝ }
     {
-        if self.page.append(text) { None } else { Some(Step::Fault(ScriptFault::PageTooLong)) }
+        if self.page.append(text) {
+            None
+        } else {
+            Some(Step::Fault(ScriptFault::PageTooLong))
+        }
     }
 
     /// `say`: the text and a line's end go onto the page.
@@ -77,7 +81,11 @@ impl<'a> Run<'a> {
         let Some(bytes) = self.entries.find(Kind::Needed, name) else {
             return Some(Step::Fault(ScriptFault::NotNeeded));
         };
-        if self.page.append(bytes) { None } else { Some(Step::Fault(ScriptFault::PageTooLong)) }
+        if self.page.append(bytes) {
+            None
+        } else {
+            Some(Step::Fault(ScriptFault::PageTooLong))
+        }
     }
 
     /// `need`, `ifcreate` and `ifhas`: asks what the name is, unless that was asked before.
@@ -168,7 +176,7 @@ impl<'a> Run<'a> {
         ensures keeps { λ _. ⌜ (now (now (self .exit) .rest) ≡ now (now (self .entry) .rest)) × (now (self .exit) .line ≡ now (self .entry) .line) ⌝ }
         ensures tells { λ r. ⌜ Lacks r (now (self .entry) .line) (view (now (self .exit)))
             (lacking (question .word) (full (made (now (self .entry) .entries))) (now (self .entry) .line)
-                (onward (view (now (self .entry))) (mode-after (question .word)) (with-entry (made (now (self .entry) .entries)) AsAbsent (spelled (question .name)) []) (content (now (self .entry) .page)))) ⌝ }
+            (onward (view (now (self .entry))) (mode-after (question .word)) (with-entry (made (now (self .entry) .entries)) AsAbsent (spelled (question .name)) []) (content (now (self .entry) .page)))) ⌝ }
     {
         match (question.word, self.entries.is_full()) {
             (Word::Need, _) => return Some(ScriptFault::Absent),
@@ -205,7 +213,14 @@ impl<'a> Run<'a> {
     pub fn new(stem: &'a [u8], text: &'a Page, entries: Entries) -> Self
         ensures { λ r. ⌜ view r ≡ record { stem = now (stem .entry); mode = InRunning; line = 0; made = made entries; page = []; rest = content (now (text .entry)) } ⌝ }
     {
-        Run { stem, rest: text.as_bytes(), line: 0, mode: Mode::Running, page: Page::new(), entries }
+        Run {
+            stem,
+            rest: text.as_bytes(),
+            line: 0,
+            mode: Mode::Running,
+            page: Page::new(),
+            entries,
+        }
     }
 
     /// The number of the line that was read last.

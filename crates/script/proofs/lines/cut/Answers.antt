@@ -15,21 +15,26 @@ returns-then-b-at c =
     let xs = c .args .text .now in
     let b = before-here (c .args .at) xs (c .loop-i .i) (c .loop-i-test .taken) (c .if-b-at .taken) in
     let a = after-here (c .args .at) xs (c .loop-i .i) (c .loop-i-test .taken) (c .if-b-at .taken) in
-    record { front = simp sub-zero (sym (c .loop-i .inv .0 ∙ (ap (λ ys. take (c .loop-i .i) xs ++ ys) b ∙ append-nil (take (c .loop-i .i) xs))))
-    ; behind = take-rest xs (c .loop-i .i + 1) ∙ sym (c .loop-i .inv .1 ∙ a)
-    ; shorter = search needs }
+    record {
+      front = simp sub-zero (sym (c .loop-i .inv .0 ∙ (ap (λ ys. take (c .loop-i .i) xs ++ ys) b ∙ append-nil (take (c .loop-i .i) xs))));
+      behind = take-rest xs (c .loop-i .i + 1) ∙ sym (c .loop-i .inv .1 ∙ a);
+      shorter = search needs;
+    }
 
 pub loop-i-again : need.loop-i-again
 loop-i-again c =
-    let xs = c .args .text .now in
-    ( before-more (c .args .at) xs (c .loop-i .i) (c .loop-i-test .taken) (c .if-b-at .left) (c .loop-i .inv .0)
-    , c .loop-i .inv .1 ∙ after-more (c .args .at) xs (c .loop-i .i) (c .loop-i-test .taken) (c .if-b-at .left))
+    let xs = c .args .text .now in (
+      before-more (c .args .at) xs (c .loop-i .i) (c .loop-i-test .taken) (c .if-b-at .left) (c .loop-i .inv .0),
+      c .loop-i .inv .1 ∙ after-more (c .args .at) xs (c .loop-i .i) (c .loop-i-test .taken) (c .if-b-at .left),
+    )
 
 pub returns : need.returns
 returns c =
     let xs = c .args .text .now in
     let b = at-drop-all (before (c .args .at)) xs (c .loop-i .i) (c .loop-i-test .left) in
     let a = at-drop-all (after (c .args .at)) xs (c .loop-i .i) (c .loop-i-test .left) in
-    record { front = sym (c .loop-i .inv .0 ∙ (ap (λ ys. take (c .loop-i .i) xs ++ ys) b ∙ (append-nil (take (c .loop-i .i) xs) ∙ take-all (c .loop-i .i) xs (c .loop-i-test .left))))
-    ; behind = take-rest xs (length xs) ∙ (drop-all (length xs) xs (omega arith) ∙ sym (c .loop-i .inv .1 ∙ a))
-    ; shorter = search needs }
+    record {
+      front = sym (c .loop-i .inv .0 ∙ (ap (λ ys. take (c .loop-i .i) xs ++ ys) b ∙ (append-nil (take (c .loop-i .i) xs) ∙ take-all (c .loop-i .i) xs (c .loop-i-test .left))));
+      behind = take-rest xs (length xs) ∙ (drop-all (length xs) xs (omega arith) ∙ sym (c .loop-i .inv .1 ∙ a));
+      shorter = search needs;
+    }

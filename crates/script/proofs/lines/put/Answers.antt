@@ -10,8 +10,9 @@ use Rattle.script.proofs.lines.put.Needs as need
 
 pub returns : need.returns
 returns c =
-    let e = c .copy-from-slice .ensures .after in
-    ( refl
-    , omega arith
-    , take-putMid (c .args .at) _ (c .args .out .now) (c .copy-from-slice .last .self) _ (ap (λ (ys : Bytes). c .args .at + length ys) (sym e)) (c .pre)
-      ∙ ap (λ (ys : Bytes). take (c .args .at) (c .args .out .now) ++ ys) e)
+    let e = c .copy-from-slice .ensures .after in (
+      refl,
+      omega arith,
+      take-putMid (c .args .at) _ (c .args .out .now) (c .copy-from-slice .last .self) _ (ap (λ (ys : Bytes). c .args .at + length ys) (sym e)) (c .pre)
+          ∙ ap (λ (ys : Bytes). take (c .args .at) (c .args .out .now) ++ ys) e,
+    )

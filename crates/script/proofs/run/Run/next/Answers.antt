@@ -21,4 +21,5 @@ pub returns-in-Some : need.returns-in-Some
 returns-in-Some c =
     record {
       tells = stepped-some (c .read-line .result) (c .in-Some .step) (view (c .read-line .last .self)) _ _ (c .in-Some .is) (c .loop-self .inv .0) (c .read-line .ensures .tells);
-      falls = λ _. omega (arith, c .read-line .ensures .falls, c .loop-self .inv .1) }
+      falls = λ _. omega (arith, c .read-line .ensures .falls, c .loop-self .inv .1);
+    }

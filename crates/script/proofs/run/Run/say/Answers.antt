@@ -10,10 +10,12 @@ pub returns-in-rest : need.returns-in-rest
 returns-in-rest c =
     record {
       tells = ap (after-doing (view (c .args .self .now))) (long-text _ (filled (c .args .self .now .stem .now) (c .args .text .now)) (search needs));
-      keeps = refl }
+      keeps = refl;
+    }
 
 pub returns-then-not-append : need.returns-then-not-append
 returns-then-not-append c =
     record {
       tells = ap (after-doing (view (c .args .self .now))) (long-line _ (content (c .in-Some .line)) (filled (c .args .self .now .stem .now) (c .args .text .now)) (search needs) (search needs));
-      keeps = refl }
+      keeps = refl;
+    }
