@@ -41,4 +41,7 @@ unfolding spec.candidates
 all-candidates t h = rw h
 
 pub ends-told : (t : Bytes) (b : Bool) → Matches (λ (x y : ℕ) (r : Bool). Decides r (x ≡ y)) (codes ".do") (drop (length t - 3) t) b → spec.ends-in (codes ".do") t ≡ b
-ends-told t b m = same-from-decides _ _ (sameBytes-decides _ _) (matches-decides _ _ b m)
+ends-told t b m =
+    let d = codes ".do" in
+    let u = drop (length t - 3) t in
+    same-from-decides _ _ (sameBytes-decides d u) (matches-decides d u b m)
