@@ -1,0 +1,4 @@
+pub mod Files
+pub mod Status
+pub mod Evaluate
+pub mod Told

@@ -1,0 +1,4 @@
+pub mod files;
+pub mod status;
+
+pub use files::Files;
