@@ -2,3 +2,5 @@ pub mod Files
 pub mod Status
 pub mod Evaluate
 pub mod Told
+pub mod Causes
+pub mod Chains

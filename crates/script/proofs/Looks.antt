@@ -5,18 +5,19 @@ use mathlib.Core.Bool.{Bool, true, false, cond, _&&_}
 use Prim.Native.Nat.{ℕ, _+_, _≤_, _<_}
 use native.Mathlib.Omega.{arith}
 use lib.Dec.{leb}
-use lib.ListN.{length, getD, drop, take, set}
+use lib.ListN.{length, getD, drop, take}
 use Rattle.std.specs.Orderings.{Decides}
 use Rattle.std.specs.Lexical.{Matches}
 use Rattle.std.specs.shelf.Text.{sameBytes}
 use Rattle.std.specs.declared.option.Option.{Option}
 use Rattle.std.specs.declared.option.Option.the-variants.{Some, None}
-use Rattle.std.proofs.shelf.Lists.{at-drop-more, take-more-set, map-push, length-map, length-take-le}
+use Rattle.std.proofs.shelf.Lists.{at-drop-more}
 use Rattle.std.proofs.shelf.Tests.{le-leb, lt-leb}
 use Rattle.std.proofs.shelf.Ways.{same-from-decides}
 use Rattle.std.proofs.shelf.Equals.{matches-decides, sameBytes-decides}
 use Rattle.names.specs.Limits.{entries-max}
 use Rattle.names.specs.Names.{Bytes}
+use Rattle.names.proofs.Capped.{capped-count}
 use Rattle.names.specs.Spelled.{spelled}
 use Rattle.script.specs.Pages.{content}
 use Rattle.script.specs.Tree.{entered, same-kind, full}
@@ -60,17 +61,11 @@ module _ (items : List Row) (i : ℕ) (d : Row) (s : Bytes) (h : i < length item
   row-here e = row-at ∙ rw e
 
 module _ (es : List Entry) (n : ℕ) (l : length es ≡ entries-max) (h : n ≤ entries-max) where
-  count : length (map seen (take n es)) ≡ n
-  count = length-map (take n es) seen ∙ length-take-le n es (omega arith)
-
   pub is-full : leb entries-max n ≡ full (map seen (take n es))
-  is-full = ap (leb entries-max) (sym count)
+  is-full = ap (leb entries-max) (sym (capped-count seen entries-max es n l h))
 
   pub not-full : n < entries-max → full (map seen (take n es)) ≡ false
   not-full k = sym is-full ∙ lt-leb entries-max n k
 
   pub now-full : entries-max ≤ n → full (map seen (take n es)) ≡ true
   now-full k = sym is-full ∙ le-leb entries-max n k
-
-  pub one-more : (e : Entry) → n < entries-max → map seen (take (n + 1) (set es n e)) ≡ map seen (take n es) ++ (seen e ∷ [])
-  one-more e k = ap (map seen) (take-more-set es n e (omega arith)) ∙ map-push seen (take n es) e
