@@ -11,6 +11,8 @@ use Rattle.faults.specs.declared.fault.ScriptFault.the-variants.{Absent as NotT
 use Rattle.script.specs.Tree.{Tree, done, stop, ask, Offer, wanted, refused}
 use Rattle.script.specs.Search.{whole-run}
 use Rattle.clean.specs.Files.{Files}
+use Rattle.clean.specs.declared.fault.Cause.{Cause}
+use Rattle.clean.specs.declared.fault.Cause.the-variants.{Misnamed, Unknown, Plain, Script}
 use Rattle.clean.specs.Status.{Status, absent, source, target, status, is-absent}
 
 -- a run ends with a page, or with a fault and its trail: each open target with its line, innermost first
@@ -62,17 +64,19 @@ evaluate laid (suc left) chain t =
     (λ n. yields (chain ++ (t ∷ [])) (evaluate laid left (chain ++ (t ∷ []))) n (status laid n))
     (whole-run t)
 
--- the answer to bytes that may be a name
+-- The answer to bytes that may be a name: the page, or why there is none and the trail.
 pub data Answer : Type 0 where
-  ended : Outcome → Answer
-  misnamed : Answer
-  unknown : Answer
-  plain : Answer
+  made : Bytes → Answer
+  failed : Cause → Steps → Answer
+
+abbrev pub as-answer : Outcome → Answer
+as-answer (page b) = made b
+as-answer (fault f trail) = failed (Script f) trail
 
 abbrev pub answer : Files → Bytes → Status → Answer
-answer laid n absent = unknown
-answer laid n (source b) = plain
-answer laid n target = ended (evaluate laid depth-max [] n)
+answer laid n absent = failed Unknown []
+answer laid n (source b) = failed Plain []
+answer laid n target = as-answer (evaluate laid depth-max [] n)
 
 abbrev pub clean : Files → Bytes → Answer
-clean laid n = cond (is-name n) (answer laid n (status laid n)) misnamed
+clean laid n = cond (is-name n) (answer laid n (status laid n)) (failed Misnamed [])

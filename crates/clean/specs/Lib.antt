@@ -4,3 +4,5 @@ pub mod Evaluate
 pub mod Told
 pub mod Causes
 pub mod Chains
+pub mod Opening
+pub mod Answered

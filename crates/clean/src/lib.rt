@@ -1,4 +1,5 @@
 pub mod chain;
+pub mod evaluate;
 pub mod fault;
 pub mod files;
 pub mod status;

@@ -3,3 +3,4 @@ pub mod Looks
 pub mod Runs
 pub mod Cuts
 pub mod Stems
+pub mod Scripts
