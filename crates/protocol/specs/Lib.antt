@@ -1,0 +1,4 @@
+pub mod Decimals
+pub mod Substitutes
+pub mod Commands
+pub mod Views

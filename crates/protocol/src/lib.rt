@@ -1,0 +1,7 @@
+mod command;
+mod decimal;
+mod substitute;
+
+pub use command::Command;
+pub use decimal::number;
+pub use substitute::replace;
