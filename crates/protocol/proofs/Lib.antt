@@ -1,3 +1,5 @@
 pub mod Readings
 pub mod Divides
 pub mod LookUps
+pub mod Collects
+pub mod Prints

@@ -2,3 +2,6 @@ pub mod Decimals
 pub mod Substitutes
 pub mod Commands
 pub mod Views
+pub mod InputLines
+pub mod Collected
+pub mod Answers

@@ -5,7 +5,7 @@ ghost use Rattle.protocol.specs.Substitutes.{swapped};
 /// In a line, stands for the byte that ends a line.
 pub const STAND_IN: u8 = b'|';
 
-fn substitute(b: u8, from: u8, to: u8) -> u8
+pub fn substitute(b: u8, from: u8, to: u8) -> u8
     ensures { λ r. ⌜ r ≡ swapped from to b ⌝ }
 {
     if b == from { to } else { b }
