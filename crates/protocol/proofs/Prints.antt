@@ -7,16 +7,16 @@ use Rattle.std.proofs.shelf.Lists.{append-assoc, map-more, joined-more, take-al
 use Rattle.names.specs.Names.{Bytes}
 use Rattle.faults.specs.Trails.{Steps, step}
 use Rattle.faults.specs.declared.frame.Frame.{Frame}
-use Rattle.protocol.specs.Substitutes.{swapped}
+use Rattle.protocol.specs.Substitutes.{newline, bar, replaced}
 use Rattle.protocol.specs.Answers.{page-text, frame-text, trail-text}
 
 -- vs is printed already, and ws after one piece more
 module _ (pre vs ws : Bytes) (i : ℕ) where
-  pub page-more : (xs : Bytes) (b : ℕ) → i < length xs → vs ≡ pre ++ page-text (take i xs) → b ≡ swapped 10 124 (getD xs i 0) → ws ≡ vs ++ b ∷ []
+  pub page-more : (xs : Bytes) (b : ℕ) → i < length xs → vs ≡ pre ++ page-text (take i xs) → b ≡ replaced newline bar (getD xs i 0) → ws ≡ vs ++ b ∷ []
       → ws ≡ pre ++ page-text (take (i + 1) xs)
   page-more xs b h e g f =
       f ∙ (ap (λ s. s ++ b ∷ []) e ∙ (append-assoc pre (page-text (take i xs)) (b ∷ [])
-      ∙ ap (λ s. pre ++ s) (ap (λ x. page-text (take i xs) ++ x ∷ []) g ∙ sym (map-more (swapped 10 124) xs i 0 h))))
+      ∙ ap (λ s. pre ++ s) (ap (λ x. page-text (take i xs) ++ x ∷ []) g ∙ sym (map-more (replaced newline bar) xs i 0 h))))
 
   pub trail-more : (fs : List Frame) (d : Frame) (t : Bytes) → i < length fs → vs ≡ pre ++ trail-text (map step (take i fs))
       → t ≡ frame-text (step (getD fs i d)) → ws ≡ vs ++ t → ws ≡ pre ++ trail-text (map step (take (i + 1) fs))

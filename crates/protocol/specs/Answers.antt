@@ -7,13 +7,13 @@ use Rattle.std.specs.Written.{decimal}
 use Rattle.std.specs.Joined.{joined}
 use Rattle.names.specs.Names.{Bytes}
 use Rattle.faults.specs.Trails.{Steps}
-use Rattle.protocol.specs.Substitutes.{swapped}
+use Rattle.protocol.specs.Substitutes.{newline, bar, replaced}
 use Rattle.protocol.specs.declared.answer.Answer.{Answer}
 use Rattle.protocol.specs.declared.answer.Answer.the-variants.{Done, Counts, Page, No}
 
 -- a page in one line: `|` for each byte 10
 abbrev pub page-text : Bytes → Bytes
-page-text page = map (swapped 10 124) page
+page-text page = map (replaced newline bar) page
 
 -- an open target and its line, behind a blank
 abbrev pub frame-text : Bytes × ℕ → Bytes
@@ -31,4 +31,4 @@ answer-text (Page page) trail = codes "page " ++ page-text (now page)
 answer-text (No number) trail = codes "no " ++ (decimal number ++ trail-text trail)
 
 abbrev pub answer-line : Answer → Steps → Bytes
-answer-line a trail = answer-text a trail ++ (10 ∷ [])
+answer-line a trail = answer-text a trail ++ (newline ∷ [])

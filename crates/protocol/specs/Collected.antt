@@ -6,6 +6,7 @@ use lib.Dec.{eqb}
 use lib.ListN.{take}
 use Rattle.std.specs.declared.option.Option.the-variants.{Some, None}
 use Rattle.names.specs.Names.{Bytes}
+use Rattle.protocol.specs.Substitutes.{newline}
 use Rattle.protocol.specs.InputLines.{Line, bounded}
 use Rattle.protocol.specs.declared.line_buffer.LineBuffer.{LineBuffer}
 
@@ -22,7 +23,7 @@ is-empty (Some (b ∷ bs)) = false
 -- the lines that the bytes give, where l has been collected before them
 abbrev pub lines-from : Line → Bytes → List Line
 lines-from l [] = cond (is-empty l) [] (l ∷ [])
-lines-from l (b ∷ bs) = cond (eqb b 10) (l ∷ lines-from (Some []) bs) (lines-from (grown l b) bs)
+lines-from l (b ∷ bs) = cond (eqb b newline) (l ∷ lines-from (Some []) bs) (lines-from (grown l b) bs)
 
 -- the line in a buffer: complete, or as far as it has come
 abbrev pub held : LineBuffer → Line

@@ -8,6 +8,7 @@ use Rattle.std.specs.declared.option.Option.{Option}
 use Rattle.std.specs.declared.option.Option.the-variants.{Some, None}
 use Rattle.names.specs.Limits.{line-max}
 use Rattle.names.specs.Names.{Bytes}
+use Rattle.protocol.specs.Substitutes.{newline}
 
 -- b in front of the first line
 abbrev pub on-first : ℕ → List Bytes → List Bytes
@@ -16,7 +17,7 @@ on-first b (l ∷ ls) = (b ∷ l) ∷ ls
 
 abbrev pub cut : Bytes → List Bytes
 cut [] = []
-cut (b ∷ bs) = cond (eqb b 10) ([] ∷ cut bs) (on-first b (cut bs))
+cut (b ∷ bs) = cond (eqb b newline) ([] ∷ cut bs) (on-first b (cut bs))
 
 -- a line by its bytes, or none of them where it is over-long
 abbrev pub Line : Type 0

@@ -9,6 +9,8 @@ ghost use Rattle.std.specs.Vec.{made};
 ghost use Rattle.std.specs.Written.{decimal};
 ghost use Rattle.faults.specs.Trails.{step, steps};
 ghost use Rattle.protocol.specs.Answers.{frame-text, trail-text, page-text, answer-text, answer-line};
+use crate::substitute::BAR;
+use crate::substitute::NEWLINE;
 use crate::substitute::substitute;
 use faults::Frame;
 use faults::Trail;
@@ -29,24 +31,24 @@ pub enum Answer<'a> {
     No(u8),
 }
 
-fn counts(heap: Global, changed: u16, same: u16) -> Result<Vec<u8>, AllocError>
+fn counts_text(heap: Global, changed: u16, same: u16) -> Result<Vec<u8>, AllocError>
     ensures { λ r. ⌜ made r (λ v. vec-items v ≡ codes "ok " ++ (decimal changed ++ (32 ∷ decimal same))) ⌝ }
 {
     let text = format!(heap, "ok {changed} {same}")?;
     Ok(text.into_bytes())
 }
 
-fn page_line(heap: Global, page: &[u8]) -> Result<Vec<u8>, AllocError>
+fn page_text(heap: Global, page: &[u8]) -> Result<Vec<u8>, AllocError>
     ensures { λ r. ⌜ made r (λ v. vec-items v ≡ codes "page " ++ page-text (now (page .entry))) ⌝ }
 {
     let mut text = Vec::from_slice(heap, b"page ")?;
     for b in page {
-        text.push(substitute(*b, b'\n', b'|'))?;
+        text.push(substitute(*b, NEWLINE, BAR))?;
     }
     Ok(text)
 }
 
-fn frame_of_trail(heap: Global, frame: &Frame) -> Result<String, AllocError>
+fn frame_text(heap: Global, frame: &Frame) -> Result<String, AllocError>
     ensures { λ r. ⌜ made r (λ s. string-bytes s ≡ frame-text (step (now (frame .entry)))) ⌝ }
 {
     let target = frame.target;
@@ -54,12 +56,12 @@ fn frame_of_trail(heap: Global, frame: &Frame) -> Result<String, AllocError>
     format!(heap, " {target}:{line}")
 }
 
-fn refusal(heap: Global, number: u8, trail: &Trail) -> Result<Vec<u8>, AllocError>
+fn refusal_text(heap: Global, number: u8, trail: &Trail) -> Result<Vec<u8>, AllocError>
     ensures { λ r. ⌜ made r (λ v. vec-items v ≡ codes "no " ++ (decimal number ++ trail-text (steps (now (trail .entry))))) ⌝ }
 {
     let mut text = format!(heap, "no {number}")?;
     for frame in trail.frames() {
-        let passed = frame_of_trail(heap, frame)?;
+        let passed = frame_text(heap, frame)?;
         text.push_str(passed.as_str())?;
     }
     Ok(text.into_bytes())
@@ -72,9 +74,9 @@ impl Answer<'_> {
     {
         match *self {
             Answer::Done => Vec::from_slice(heap, b"ok"),
-            Answer::Counts { changed, same } => counts(heap, changed, same),
-            Answer::Page(page) => page_line(heap, page),
-            Answer::No(number) => refusal(heap, number, trail),
+            Answer::Counts { changed, same } => counts_text(heap, changed, same),
+            Answer::Page(page) => page_text(heap, page),
+            Answer::No(number) => refusal_text(heap, number, trail),
         }
     }
 
@@ -84,7 +86,7 @@ impl Answer<'_> {
         ensures { λ r. ⌜ vec-items (now (out .exit)) ≡ cond (isOk r) (vec-items (now (out .entry)) ++ answer-line (now (self .entry)) (steps (now (trail .entry)))) (vec-items (now (out .entry))) ⌝ }
     {
         let mut line = self.text(trail, out.allocator())?;
-        line.push(b'\n')?;
+        line.push(NEWLINE)?;
         out.extend_from_slice(line.as_slice())
     }
 }

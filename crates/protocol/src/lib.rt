@@ -1,3 +1,5 @@
+//! Lines in, commands out; answers in, lines out: what the programs share.
+
 mod answer;
 mod command;
 mod decimal;
@@ -6,6 +8,7 @@ mod substitute;
 
 pub use answer::Answer;
 pub use command::Command;
-pub use decimal::number;
 pub use line_buffer::LineBuffer;
+pub use substitute::BAR;
+pub use substitute::NEWLINE;
 pub use substitute::replace;

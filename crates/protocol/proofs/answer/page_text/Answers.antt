@@ -1,6 +1,6 @@
 use lib.Chars.{codes}
 use Rattle.protocol.proofs.Prints.{page-more, page-all}
-use Rattle.protocol.proofs.answer.page_line.Needs as need
+use Rattle.protocol.proofs.answer.page_text.Needs as need
 
 pub loop-b-again : need.loop-b-again
 loop-b-again c =

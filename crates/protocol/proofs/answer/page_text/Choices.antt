@@ -4,7 +4,7 @@ use lib.Chars.{codes}
 use lib.ListN.{take}
 use Rattle.std.specs.Of.Vec.{vec-items}
 use Rattle.protocol.specs.Answers.{page-text}
-use Rattle.protocol.proofs.answer.page_line.Given as given
+use Rattle.protocol.proofs.answer.page_text.Given as given
 
 abbrev pub Inv-loop-b : given.InvT-loop-b
 Inv-loop-b l = vec-items (l .text) ≡ codes "page " ++ page-text (take (l .b-index) (l .page))
