@@ -2,19 +2,18 @@
 use mathlib.Core.Path.{_≡_, refl, sym, ap, ap₂, _∙_}
 use mathlib.Core.Bool.{Bool, true, false, cond}
 use mathlib.Core.List.{List, [], _∷_, _++_, map}
-use Prim.Native.Nat.{ℕ, zero, suc, _+_, _≤_, _<_}
+use Prim.Native.Nat.{ℕ, _+_, _≤_, _<_}
 use native.Mathlib.Omega.{arith}
-use lib.Dec.{eqb, leb, ltb}
+use lib.Dec.{eqb, leb}
 use lib.ListN.{length, take, set}
 use Rattle.std.specs.declared.option.Option.{Option}
 use Rattle.std.specs.declared.option.Option.the-variants.{Some, None}
 use Rattle.std.proofs.shelf.Lists.{append-nil, append-assoc, length-push, length-take-le, take-more-set}
-use Rattle.std.proofs.shelf.Tests.{cond-true, cond-false, le-leb, lt-leb, leb-false, lt-ltb}
+use Rattle.std.proofs.shelf.Tests.{cond-true, cond-false, le-leb, lt-leb, leb-false}
 use Rattle.names.specs.Limits.{line-max}
 use Rattle.names.specs.Names.{Bytes}
 use Rattle.protocol.specs.InputLines.{Line, on-first, cut, bounded, input-lines}
-use Rattle.protocol.specs.Collected.{grown, is-empty, lines-from, held, begun}
-use Rattle.protocol.specs.declared.line_buffer.LineBuffer.{LineBuffer}
+use Rattle.protocol.specs.Collected.{grown, is-empty, lines-from}
 
 -- bytes in front of the first line
 front : Bytes → List Bytes → List Bytes
@@ -90,13 +89,3 @@ module _ (bs : Bytes) (n b : ℕ) (l : length bs ≡ line-max) where
       let j = length-take-le n bs (omega arith) in
       let m = length-push (take n bs) b in
       sym (passes (take n bs ++ b ∷ []) (omega arith))
-
--- the input ends
-unended : (n : ℕ) (bs : Bytes) → n ≤ length bs → lines-from (Some (take n bs)) [] ≡ cond (ltb 0 n) (Some (take n bs) ∷ []) []
-unended zero bs h = refl
-unended (suc n) [] h = absurd (omega arith)
-unended (suc n) (b ∷ bs) h = sym (cond-true (ltb 0 (suc n)) (Some (b ∷ take n bs) ∷ []) [] (lt-ltb 0 (suc n) (omega arith)))
-
-pub ended : (s : LineBuffer) → s .complete ≡ false → s .«over_long» ≡ false
-    → lines-from (begun s) [] ≡ cond (ltb 0 (s .len)) (held s ∷ []) []
-ended s p q = let f = s .fixed in let g = s .short in simp (p, q) (unended (s .len) (s .bytes) (omega arith))

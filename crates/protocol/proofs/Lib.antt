@@ -3,3 +3,4 @@ pub mod Divides
 pub mod LookUps
 pub mod Collects
 pub mod Prints
+pub mod Parses

@@ -2,7 +2,7 @@ ghost use mathlib.Core.Path.{_≡_};
 ghost use Rattle.std.specs.Options.{mapped};
 ghost use Rattle.protocol.specs.Commands.{divided, form-of, named, both-numbers, request-of};
 ghost use Rattle.protocol.specs.Decimals.{number-of};
-ghost use Rattle.protocol.specs.Views.{parts, request};
+ghost use Rattle.protocol.specs.Views.{parts, request, Reads};
 use crate::decimal::number;
 
 /// What a line asks for. A name is the line's bytes, not judged yet.
@@ -121,8 +121,7 @@ fn restart<'a>(charge: &[u8], pick: &[u8]) -> Option<Command<'a>>
 }
 
 impl<'a> Command<'a> {
-    /// The command that a line gives; `None` where the line has another form.
-    pub fn parse(line: &'a [u8]) -> Option<Command<'a>>
+    fn of_line(line: &'a [u8]) -> Option<Command<'a>>
         ensures { λ r. ⌜ mapped request r ≡ request-of (now (line .entry)) ⌝ }
     {
         let Some((word, rest)) = divide(line) else {
@@ -141,5 +140,13 @@ impl<'a> Command<'a> {
             (Form::TwoNumbers, Some((charge, pick))) => restart(charge, pick),
             _ => None,
         }
+    }
+
+    /// The command that a line gives; `None` where the line has another form.
+    pub fn parse(line: &'a [u8]) -> Option<Command<'a>>
+        ensures value { λ r. ⌜ mapped request r ≡ request-of (now (line .entry)) ⌝ }
+        ensures forms { λ r. ⌜ Reads r (now (line .entry)) ⌝ }
+    {
+        Command::of_line(line)
     }
 }
