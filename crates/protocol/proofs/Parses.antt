@@ -21,7 +21,7 @@ use Rattle.std.proofs.shelf.Tests.{eqb-true, eqb-false, ne-eqb, leb-true, le-le
 use Rattle.names.specs.Names.{Bytes}
 use Rattle.protocol.specs.Decimals.{number-max, digit, all-digits, starts-well, value-behind, within, number-of}
 use Rattle.protocol.specs.Commands.{Request, lay, take, show, build, page, restart, in-front, divided, words, look-up, form-of, named, both-numbers, with-rest, with-form, with-parts, request-of}
-use Rattle.protocol.specs.Forms.{no-blank, Names, Gives}
+use Rattle.protocol.specs.Forms.{no-blank, Gives}
 use Rattle.protocol.specs.Views.{request, Reads}
 use Rattle.protocol.specs.declared.command.Command.{Command}
 use Rattle.protocol.specs.declared.command.Form.{Form}

@@ -15,17 +15,17 @@ abbrev pub no-blank : Bytes → Bool
 no-blank [] = true
 no-blank (b ∷ bs) = not (eqb b 32) && no-blank bs
 
--- the line is the words, and a name without a blank behind them
-abbrev pub Names : Bytes → Bytes → Bytes → Type 0
-Names line word name = (no-blank name ≡ true) × (line ≡ word ++ name)
+-- the line is the word with its blank, and behind it a name without a blank
+abbrev pub Behind : Bytes → Bytes → Bytes → Type 0
+Behind line word name = (no-blank name ≡ true) × (line ≡ word ++ name)
 
 -- the line gives this command
 abbrev pub Gives : Bytes → Request → Type 0
 Gives line (lay name text) =
     (no-blank name ≡ true) × ((line ≡ codes "lay " ++ (name ++ 32 ∷ text)) ⊎ ((text ≡ []) × (line ≡ codes "lay " ++ name)))
-Gives line (take name) = Names line (codes "take ") name
-Gives line (show name) = Names line (codes "show ") name
-Gives line (build name) = Names line (codes "build ") name
-Gives line (page name) = Names line (codes "page ") name
+Gives line (take name) = Behind line (codes "take ") name
+Gives line (show name) = Behind line (codes "show ") name
+Gives line (build name) = Behind line (codes "build ") name
+Gives line (page name) = Behind line (codes "page ") name
 Gives line (restart charge pick) =
     (charge ≤ number-max) × (pick ≤ number-max) × (line ≡ codes "restart " ++ (decimal charge ++ 32 ∷ decimal pick))
