@@ -195,3 +195,26 @@ fn fetch(
         }
     }
 }
+
+/// Clean evaluation of a name that is given as bytes: its page over the laid files, as from bare files. Where there is
+/// none, the fault stands in the lent place, which a page leaves as it was.
+pub fn clean_page(files: &Files, name: &[u8], fault: &mut Fault) -> Result<Page, Failed>
+    ensures value { λ r. ⌜ answered r (now (fault .exit)) ≡ clean (laid (now (files .entry))) (now (name .entry)) ⌝ }
+    ensures kept { λ r. ⌜ (isOk r ≡ true → now (fault .exit) ≡ now (fault .entry)) ⌝ }
+{
+    let Some(name) = Name::new(name) else {
+        *fault = Fault::new(Cause::Misnamed);
+        return Err(Failed);
+    };
+    match Status::of(files, &name) {
+        Status::Absent => {
+            *fault = Fault::new(Cause::Unknown);
+            Err(Failed)
+        }
+        Status::Source(_) => {
+            *fault = Fault::new(Cause::Plain);
+            Err(Failed)
+        }
+        Status::Target => open_target(files, &Chain::new(), &name, fault),
+    }
+}
