@@ -4,7 +4,7 @@ mod answer;
 mod command;
 mod decimal;
 pub mod line_buffer;
-mod substitute;
+pub mod substitute;
 
 pub use answer::Answer;
 pub use command::Command;
