@@ -99,7 +99,7 @@ module _ (laid : Files) (chain : List Bytes) (t : Bytes) where
 
 -- ---- trails
 
-abbrev trail-length : Outcome → ℕ
+abbrev pub trail-length : Outcome → ℕ
 trail-length (page b) = 0
 trail-length (fault f s) = length s
 

@@ -6,3 +6,6 @@ pub mod Causes
 pub mod Chains
 pub mod Opening
 pub mod Answered
+pub mod Trace
+pub mod Laws
+pub mod Cases

@@ -2,6 +2,7 @@ pub mod chain;
 pub mod evaluate;
 pub mod fault;
 pub mod files;
+pub mod laws;
 pub mod status;
 
 pub use chain::Chain;

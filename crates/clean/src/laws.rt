@@ -1,0 +1,21 @@
+ghost use Rattle.clean.specs.Cases.{Worked};
+ghost use Rattle.clean.specs.Laws.{Skipped-lines-do-nothing, Evaluation-is-local, Pages-are-made-alone, Pages-are-short, Runs-make-few-entries, Trails-end-in-the-target};
+
+/// The worked cases hold of the definitions.
+pub fn worked_cases() -> u8
+    ensures { λ _. ⌜ Worked ⌝ }
+{
+    0
+}
+
+/// The laws of clean evaluation.
+pub fn laws() -> u8
+    ensures skipped { λ _. ⌜ Skipped-lines-do-nothing ⌝ }
+    ensures local { λ _. ⌜ Evaluation-is-local ⌝ }
+    ensures alone { λ _. ⌜ Pages-are-made-alone ⌝ }
+    ensures short { λ _. ⌜ Pages-are-short ⌝ }
+    ensures few { λ _. ⌜ Runs-make-few-entries ⌝ }
+    ensures trails { λ _. ⌜ Trails-end-in-the-target ⌝ }
+{
+    0
+}
