@@ -1,9 +1,9 @@
-pub mod candidates;
-pub mod entry;
-pub mod lines;
-pub mod page;
-pub mod run;
-pub mod word;
+mod candidates;
+mod entry;
+mod lines;
+mod page;
+mod run;
+mod word;
 
 pub use candidates::Candidate;
 pub use candidates::Candidates;

@@ -6,7 +6,7 @@ ghost use Rattle.std.specs.Options.{Cases as BySome};
 ghost use Rattle.script.specs.Lines.{before, after, piece, filled};
 
 /// What stands before the first byte `at`, and behind it.
-pub fn cut(text: &[u8], at: u8) -> (&[u8], &[u8])
+pub(crate) fn cut(text: &[u8], at: u8) -> (&[u8], &[u8])
     ensures front { λ r. ⌜ now (r .0) ≡ before at (now (text .entry)) ⌝ }
     ensures behind { λ r. ⌜ now (r .1) ≡ after at (now (text .entry)) ⌝ }
     ensures shorter { λ r. ⌜ (0 < length (now (text .entry)) → length (now (r .1)) < length (now (text .entry))) ⌝ }
@@ -47,7 +47,7 @@ fn piece_at<'a>(text: &'a [u8], i: usize, stem: &'a [u8]) -> &'a [u8]
 }
 
 /// Writes the text with the stem in place of each `%`, and says how long that is; `None` where there is no room.
-pub fn fill(out: &mut [u8], text: &[u8], stem: &[u8]) -> Option<usize>
+pub(crate) fn fill(out: &mut [u8], text: &[u8], stem: &[u8]) -> Option<usize>
     ensures { λ r. ⌜ BySome r (length (now (out .entry)) < length (filled (now (stem .entry)) (now (text .entry))))
         (λ n. (n ≤ length (now (out .entry))) × (take n (now (out .exit)) ≡ filled (now (stem .entry)) (now (text .entry)))) ⌝ }
 {

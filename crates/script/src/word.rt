@@ -94,7 +94,7 @@ fn is_idle(line: &[u8]) -> bool
 }
 
 /// The word that a line begins with, and what follows its blank.
-pub fn read_word(line: &[u8]) -> (Spelled, &[u8])
+pub(crate) fn read_word(line: &[u8]) -> (Spelled, &[u8])
     ensures { λ r. ⌜ (r .0 ≡ spelled-by (now (line .entry))) × (now (r .1) ≡ after 32 (now (line .entry))) ⌝ }
 {
     let (text, tail) = cut(line, b' ');

@@ -86,7 +86,7 @@ impl Entries {
     }
 
     /// The bytes of the entry of this kind and name, if it has been made.
-    pub fn find(&self, kind: Kind, name: &Name) -> Option<&[u8]>
+    pub(crate) fn find(&self, kind: Kind, name: &Name) -> Option<&[u8]>
         ensures { λ r. ⌜ BySome r (entered kind (spelled (now (name .entry))) (entries (now (self .entry))) ≡ Missing)
             (λ b. entered kind (spelled (now (name .entry))) (entries (now (self .entry))) ≡ Found (now b)) ⌝ }
     {

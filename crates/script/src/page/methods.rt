@@ -37,7 +37,7 @@ impl Page {
     }
 
     /// The text with the stem in place of each `%`, if that is not too long.
-    pub fn filled(text: &[u8], stem: &[u8]) -> Option<Page>
+    pub(crate) fn filled(text: &[u8], stem: &[u8]) -> Option<Page>
         ensures { λ r. ⌜ Cases r (page-max < length (filling (now (stem .entry)) (now (text .entry)))) (λ p. content p ≡ filling (now (stem .entry)) (now (text .entry))) ⌝ }
     {
         let mut bytes = [0; PAGE_MAX];
