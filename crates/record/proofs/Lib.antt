@@ -1,0 +1,4 @@
+pub mod Numbers
+pub mod Spans
+pub mod Bodies
+pub mod RoundTrip
