@@ -2,3 +2,4 @@ pub mod Numbers
 pub mod Spans
 pub mod Bodies
 pub mod RoundTrip
+pub mod Pushes

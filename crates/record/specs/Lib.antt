@@ -4,3 +4,6 @@ pub mod Values
 pub mod Written
 pub mod Read
 pub mod Laws
+pub mod Filled
+pub mod Chain
+pub mod Held

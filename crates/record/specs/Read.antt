@@ -10,7 +10,7 @@ use Rattle.std.specs.declared.option.Option.the-variants.{Some, None}
 use Rattle.names.specs.Names.{Bytes, is-name}
 use Rattle.names.specs.Limits.{entries-max}
 use Rattle.record.specs.Entries.{EntryValue}
-use Rattle.record.specs.Written.{written}
+use Rattle.record.specs.Written.{body, written}
 use Rattle.record.specs.declared.entry.Kind.{Kind}
 use Rattle.record.specs.declared.entry.Kind.the-variants.{Script, Need, Absent}
 
@@ -31,6 +31,14 @@ entry-from b = record {
   line = number-of-two (drop 1 b);
   name = drop 7 b;
 }
+
+-- a body is lawful if its name is, and the entry that it would be, written, gives the body back
+unfoldable pub is-body : Bytes → Bool
+is-body b = is-name (drop 7 b) && sameBytes (body (entry-from b)) b
+
+abbrev pub are-bodies : List Bytes → Bool
+are-bodies [] = true
+are-bodies (b ∷ bs) = is-body b && are-bodies bs
 
 -- the first n pairs of offset and length
 abbrev pub pairs-from : ℕ → Bytes → List (ℕ × ℕ)

@@ -1,4 +1,5 @@
 ghost use mathlib.Core.Path.{_≡_};
+ghost use Prim.Native.Nat.{_<_, _^_};
 ghost use Rattle.record.specs.Written.{head, kind-byte};
 ghost use Rattle.record.specs.Entries.{stamp-of};
 ghost use Rattle.record.specs.Values.{value-of};
@@ -37,7 +38,9 @@ impl Kind {
 impl Entry {
     // What stands before the name: kind, line and stamp.
     pub(crate) fn head(&self) -> [u8; HEAD_SIZE]
-        ensures { λ r. ⌜ r ≡ head (value-of (now (self .entry))) ⌝ }
+        ensures bytes { λ r. ⌜ r ≡ head (value-of (now (self .entry))) ⌝ }
+        ensures line { λ _. ⌜ now (self .entry) .line < 2 ^ 16 ⌝ }
+        ensures stamp { λ _. ⌜ stamp-of (now (self .entry) .kind) < 2 ^ 32 ⌝ }
     {
         let (kind, stamp) = self.kind.code();
         let [l0, l1] = self.line.to_le_bytes();

@@ -1,0 +1,47 @@
+ghost use mathlib.Core.Path.{_≡_};
+ghost use mathlib.Core.Bool.{cond};
+ghost use mathlib.Core.List.{[], _∷_, _++_};
+ghost use lib.Dec.{ltb};
+ghost use lib.ListN.{length};
+ghost use Rattle.names.specs.Limits.{entries-max};
+ghost use Rattle.std.specs.Results.{isOk, Cases as ByOk};
+ghost use Rattle.record.specs.Values.{value-of};
+ghost use Rattle.record.specs.Held.{entries-of};
+use super::RecordWriter;
+use crate::buffer::Buffer;
+use crate::entry::Entry;
+use names::limits::ENTRIES_MAX;
+
+/// A record has no room for a 29th entry.
+#[derive(Clone, Copy)]
+pub struct Full;
+
+impl RecordWriter {
+    /// A record with no entry yet.
+    pub fn new() -> RecordWriter
+        ensures { λ r. ⌜ entries-of r ≡ [] ⌝ }
+    {
+        RecordWriter {
+            bodies: Buffer::new(),
+            pairs: [(0, 0); ENTRIES_MAX],
+            count: 0,
+        }
+    }
+
+    /// One entry more, which may be one that stands already. A 29th is refused, and nothing changes.
+    pub fn push(&mut self, entry: &Entry) -> Result<(), Full>
+        ensures test { λ r. ⌜ isOk r ≡ ltb (length (entries-of (now (self .entry)))) entries-max ⌝ }
+        ensures cases { λ r. ⌜ ByOk r (λ _. entries-of (now (self .exit)) ≡ entries-of (now (self .entry)) ++ value-of (now (entry .entry)) ∷ []) (λ _. now (self .exit) ≡ now (self .entry)) ⌝ }
+    {
+        let i = self.count;
+        if i >= ENTRIES_MAX {
+            return Err(Full);
+        }
+        let at = self.bodies.len();
+        self.bodies.append_body(entry);
+        let len = self.bodies.len() - at;
+        self.pairs[i] = (at as u16, len as u16);
+        self.count = i + 1;
+        Ok(())
+    }
+}
