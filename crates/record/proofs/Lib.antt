@@ -3,3 +3,4 @@ pub mod Spans
 pub mod Bodies
 pub mod RoundTrip
 pub mod Pushes
+pub mod Finishes

@@ -93,7 +93,7 @@ reads-back s es w =
     ap (λ b. cond b (Some (number-of-four (written s es), entries-in (written s es))) None) (t .0) ∙ (λ i. Some (t .1 i, t .2 i))
 
 -- what a record was is what it says, and fits
-same-fitting : (es : List EntryValue) → names-lawful es ≡ true → map entry-from (map body es) ≡ es → All Fitting es
+pub same-fitting : (es : List EntryValue) → names-lawful es ≡ true → map entry-from (map body es) ≡ es → All Fitting es
 same-fitting [] n h = tt
 same-fitting (e ∷ es) n h =
     let t = and-parts (is-name (e .name)) _ n in

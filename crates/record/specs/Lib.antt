@@ -7,3 +7,4 @@ pub mod Laws
 pub mod Filled
 pub mod Chain
 pub mod Held
+pub mod Finished

@@ -5,11 +5,16 @@ ghost use lib.Dec.{ltb};
 ghost use lib.ListN.{length};
 ghost use Rattle.names.specs.Limits.{entries-max};
 ghost use Rattle.std.specs.Results.{isOk, Cases as ByOk};
+ghost use Rattle.std.specs.Options.{Cases as BySome};
 ghost use Rattle.record.specs.Values.{value-of};
 ghost use Rattle.record.specs.Held.{entries-of};
+ghost use Rattle.record.specs.Finished.{bytes-of, Records};
 use super::RecordWriter;
 use crate::buffer::Buffer;
 use crate::entry::Entry;
+use crate::finished::Record;
+use crate::limits::HEADER_SIZE;
+use crate::limits::PAIR_SIZE;
 use names::limits::ENTRIES_MAX;
 
 /// A record has no room for a 29th entry.
@@ -43,5 +48,23 @@ impl RecordWriter {
         self.pairs[i] = (at as u16, len as u16);
         self.count = i + 1;
         Ok(())
+    }
+    /// The record with this stamp and the entries so far, if there is one: no record is without entries.
+    pub fn finish(&self, stamp: u32) -> Option<Record>
+        ensures { λ r. ⌜ BySome r (entries-of (now (self .entry)) ≡ []) (λ b. Records stamp (entries-of (now (self .entry))) (bytes-of b)) ⌝ }
+    {
+        if self.count == 0 {
+            return None;
+        }
+        let mut out = Buffer::new();
+        out.append(&stamp.to_le_bytes());
+        out.append(&[self.count as u8]);
+        let base = (HEADER_SIZE + PAIR_SIZE * self.count) as u16;
+        for i in 0..self.count {
+            let (offset, len) = self.pairs[i];
+            out.append_pair(base + offset, len);
+        }
+        out.append(self.bodies.as_bytes());
+        Some(Record::new(out))
     }
 }
