@@ -4,3 +4,4 @@ pub mod Bodies
 pub mod RoundTrip
 pub mod Pushes
 pub mod Finishes
+pub mod Formed

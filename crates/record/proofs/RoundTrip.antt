@@ -26,11 +26,11 @@ use Rattle.record.proofs.Bodies.{body-back, line-back, kind-back, length-body}
 abbrev Named : List EntryValue → Type 0
 Named es = names-lawful es ≡ true
 
-named-from : (es : List EntryValue) → All Fitting es → names-lawful es ≡ true
+pub named-from : (es : List EntryValue) → All Fitting es → names-lawful es ≡ true
 named-from [] f = refl
 named-from (e ∷ es) f = and-from (is-name (e .name)) _ (f .0 .lawful) (named-from es (f .1))
 
-length-bodies : (es : List EntryValue) → names-lawful es ≡ true → length (joined (map body es)) ≤ 31 * length es
+pub length-bodies : (es : List EntryValue) → names-lawful es ≡ true → length (joined (map body es)) ≤ 31 * length es
 length-bodies [] h = omega arith
 length-bodies (e ∷ es) h =
     let t = and-parts (is-name (e .name)) _ h in

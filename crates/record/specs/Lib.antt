@@ -8,3 +8,4 @@ pub mod Filled
 pub mod Chain
 pub mod Held
 pub mod Finished
+pub mod Formed
