@@ -1,8 +1,10 @@
 -- Numbers of two and of four bytes, written and read back.
 use mathlib.Core.Path.{_≡_, refl, sym, _∙_, ap}
 use mathlib.Core.List.{List, [], _∷_, _++_}
-use Prim.Native.Nat.{ℕ, _+_, _*_, _/_, _%_, _<_, _^_}
+use Prim.Native.Nat.{ℕ, _+_, _*_, _/_, _%_, _<_, _≤_, _^_}
 use native.Mathlib.Omega.{arith}
+use lib.ListN.{length, drop, getD}
+use Rattle.std.proofs.shelf.Lists.{drop-more}
 use Rattle.record.specs.Written.{two, four}
 use Rattle.record.specs.Read.{number-of-two, number-of-four}
 
@@ -61,3 +63,19 @@ four-of a b c d h k l m =
     let s₁ : n / 16777216 ≡ d = by-65536 n ∙ ap (λ x. x / 256) r₁ ∙ high c _ l in
     let s : n / 16777216 % 256 ≡ d = ap (λ x. x % 256) s₁ ∙ small d m in
     cc
+
+-- the bytes at an index, one by one
+pub two-at : (bs : List ℕ) (at : ℕ) → at + 2 ≤ length bs → drop at bs ≡ getD bs at 0 ∷ getD bs (at + 1) 0 ∷ drop (at + 2) bs
+two-at bs at h =
+    let p = drop-more bs at 0 (omega arith) in
+    let q = drop-more bs (at + 1) 0 (omega arith) in
+    let e : at + 1 + 1 ≡ at + 2 = omega arith in
+    p ∙ ap (λ x. getD bs at 0 ∷ x) q ∙ ap (λ n. getD bs at 0 ∷ getD bs (at + 1) 0 ∷ drop n bs) e
+
+pub four-at : (bs : List ℕ) (at : ℕ) → at + 4 ≤ length bs → drop at bs ≡ getD bs at 0 ∷ getD bs (at + 1) 0 ∷ getD bs (at + 2) 0 ∷ getD bs (at + 3) 0 ∷ drop (at + 4) bs
+four-at bs at h =
+    let p = two-at bs at (omega arith) in
+    let q = two-at bs (at + 2) (omega arith) in
+    let e : at + 2 + 1 ≡ at + 3 = omega arith in
+    let f : at + 2 + 2 ≡ at + 4 = omega arith in
+    p ∙ ap (λ x. getD bs at 0 ∷ getD bs (at + 1) 0 ∷ x) q ∙ (λ i. getD bs at 0 ∷ getD bs (at + 1) 0 ∷ getD bs (at + 2) 0 ∷ getD bs (e i) 0 ∷ drop (f i) bs)

@@ -1,4 +1,5 @@
 mod buffer;
+mod decode;
 mod entry;
 mod finished;
 pub mod limits;
