@@ -8,7 +8,8 @@ use lib.Dec.{eqb, leb}
 use lib.ListN.{length, take, drop, getD}
 use Rattle.std.specs.shelf.Lists.{All, joined as joined-by}
 use Rattle.std.specs.shelf.Text.{sameBytes}
-use Rattle.std.proofs.shelf.Lists.{append-assoc, length-append, length-map, take-at, drop-at, take-append-drop, drop-drop, drop-more}
+use Rattle.std.proofs.shelf.Lists.{append-assoc, length-append, length-map, take-at, drop-at, take-append-drop, drop-drop, drop-more, take-more, joined-more, at-drop-more}
+use lib.Seq.{take-add}
 use Rattle.std.proofs.shelf.Tests.{both-ways, and-parts, and-from, eq-eqb, eqb-true, le-leb, leb-true}
 use Rattle.std.proofs.shelf.Equals.{sameBytes-decides}
 use Rattle.names.specs.Names.{Bytes}
@@ -16,7 +17,7 @@ use Rattle.record.specs.Entries.{EntryValue, Fitting}
 use Rattle.record.specs.Written.{two, four, body, pairs, joined, front-size, written}
 use Rattle.record.specs.Read.{number-of-two, number-of-four, count-in, entry-from, entries-in, pairs-from, parts, is-body, are-bodies, names-lawful, is-record}
 use Rattle.record.specs.Chain.{chained}
-use Rattle.record.specs.Formed.{pair-at, body-stands, bodies-stand, well-formed}
+use Rattle.record.specs.Formed.{pair-at, pair-bytes, body-stands, bodies-stand, well-formed}
 use Rattle.record.specs.Laws.{Writable}
 use Rattle.record.proofs.Spans.{spans, length-pairs, pairs-back}
 use Rattle.record.proofs.RoundTrip.{length-bodies, length-written, named-from, record-is-written}
@@ -57,6 +58,10 @@ pairs-at n i bs h =
     let b : 5 + (4 * i + 2) ≡ 5 + 4 * i + 2 = omega arith in
     table-at n i (drop 5 bs) h ∙ (λ j. (number-of-two (p j), number-of-two ((q ∙ ap (λ k. drop k bs) b) j)))
 
+from-zero : (ps : List (ℕ × ℕ)) → joined-by (pair 0) ps ≡ joined-by pair-bytes ps
+from-zero [] = refl
+from-zero (p ∷ ps) = let e : 0 + p .0 ≡ p .0 = omega arith in λ i. (two (e i) ++ two (p .1)) ++ from-zero ps i
+
 -- stamp, count, table and the rest are the bytes
 cut : (bs : Bytes) (n : ℕ) → 5 ≤ length bs → take 4 bs ++ (getD bs 4 0 ∷ (take (4 * n) (drop 5 bs) ++ drop (5 + 4 * n) bs)) ≡ bs
 cut bs n h =
@@ -67,7 +72,7 @@ cut bs n h =
     ap (λ x. take 4 bs ++ (getD bs 4 0 ∷ x)) r ∙ ap (λ x. take 4 bs ++ x) (sym m) ∙ take-append-drop 4 bs
 
 -- bytes that are well formed are a record, if their numbers are bytes
-pub formed-is-record : (bs : Bytes) → well-formed bs ≡ true → four (number-of-four bs) ≡ take 4 bs → joined-by (pair 0) (pairs-from (count-in bs) (drop 5 bs)) ≡ take (4 * count-in bs) (drop 5 bs) → is-record bs ≡ true
+pub formed-is-record : (bs : Bytes) → well-formed bs ≡ true → four (number-of-four bs) ≡ take 4 bs → joined-by pair-bytes (pairs-from (count-in bs) (drop 5 bs)) ≡ take (4 * count-in bs) (drop 5 bs) → is-record bs ≡ true
 unfolding is-record written
 formed-is-record bs h f j =
     let n = count-in bs in
@@ -81,7 +86,7 @@ formed-is-record bs h f j =
     let l : length (entries-in bs) ≡ n = length-map (parts ps bs) entry-from ∙ length-map ps _ ∙ length-pairs-from n (drop 5 bs) in
     let z : front-size n ≡ 0 + front-size n = omega arith in
     let p : pairs (front-size (length (entries-in bs))) (map body (entries-in bs)) ≡ take (4 * n) (drop 5 bs) =
-      (λ i. pairs (front-size (l i)) (b i)) ∙ ap (λ x. pairs x (parts ps bs)) z ∙ pairs-are 0 (front-size n) ps bs (c .0) ∙ j in
+      (λ i. pairs (front-size (l i)) (b i)) ∙ ap (λ x. pairs x (parts ps bs)) z ∙ pairs-are 0 (front-size n) ps bs (c .0) ∙ from-zero ps ∙ j in
     let q : joined (map body (entries-in bs)) ≡ drop (front-size n) bs = ap joined b ∙ joined-are (front-size n) ps bs (c .0) in
     let e : written (number-of-four bs) (entries-in bs) ≡ bs = (λ i. f i ++ (l i ∷ (p i ++ q i))) ∙ cut bs n (leb-true 5 (length bs) (u .0)) in
     and-from _ _ (and-from _ _ (ap (leb 1) l ∙ v .0) (ap (λ x. leb x 28) l ∙ v .1)) (and-from _ _ (bodies-named (parts ps bs) (c .1)) (sameBytes-decides _ _ .1 e))
@@ -137,3 +142,25 @@ malformed bs h = by (is-record bs) refl
     by : (b : Bool) → is-record bs ≡ b → b ≡ false
     by false e = refl
     by true e = absurd (both-ways (well-formed bs) h (record-is-formed bs e))
+
+-- a reader's step from body to body
+pub next-body : (bs : Bytes) (n at i : ℕ) → i < n → bodies-stand at (drop i (pairs-from n (drop 5 bs))) bs ≡ (body-stands at (pair-at bs i) bs && bodies-stand (at + pair-at bs i .1) (drop (i + 1) (pairs-from n (drop 5 bs))) bs)
+next-body bs n at i h =
+    let ps = pairs-from n (drop 5 bs) in
+    let l = length-pairs-from n (drop 5 bs) in
+    let e = pairs-at n i bs h in
+    at-drop-more (λ x. bodies-stand at x bs) ps i (0, 0) (omega arith)
+    ∙ ap (λ (p : ℕ × ℕ). body-stands at p bs && bodies-stand (at + p .1) (drop (i + 1) ps) bs) e
+
+pub next-pair : (bs : Bytes) (n i : ℕ) → i < n → joined-by pair-bytes (take i (pairs-from n (drop 5 bs))) ≡ take (4 * i) (drop 5 bs) → pair-bytes (pair-at bs i) ≡ take 4 (drop (front-size i) bs) → joined-by pair-bytes (take (i + 1) (pairs-from n (drop 5 bs))) ≡ take (4 * (i + 1)) (drop 5 bs)
+next-pair bs n i h j b =
+    let ps = pairs-from n (drop 5 bs) in
+    let l = length-pairs-from n (drop 5 bs) in
+    let m = take-more ps i (0, 0) (omega arith) in
+    let a : 4 * (i + 1) ≡ 4 * i + 4 = omega arith in
+    ap (joined-by pair-bytes) m ∙ sym (joined-more pair-bytes [] (take i ps) (getD ps i (0, 0)))
+    ∙ (λ k. j k ++ (ap pair-bytes (pairs-at n i bs h) ∙ b ∙ ap (take 4) (sym (drop-drop (4 * i) 5 bs))) k)
+    ∙ sym (take-add (4 * i) 4 (drop 5 bs)) ∙ ap (λ k. take k (drop 5 bs)) (sym a)
+
+pub formed-long : (bs : Bytes) → well-formed bs ≡ true → 5 ≤ length bs
+formed-long bs h = leb-true 5 (length bs) (and-parts (leb 5 (length bs)) _ (and-parts (leb 5 (length bs) && (leb 1 (count-in bs) && leb (count-in bs) 28)) _ h .0) .0)

@@ -1,18 +1,22 @@
 -- The form of a record, as a reader goes through the bytes.
 use mathlib.Core.Bool.{Bool, _&&_}
-use mathlib.Core.List.{List, [], _∷_}
+use mathlib.Core.List.{List, [], _∷_, _++_}
 use Prim.Native.Nat.{ℕ, _+_, _*_}
 use lib.Dec.{eqb, leb}
 use lib.ListN.{length, take, drop}
 use Rattle.names.specs.Names.{Bytes}
 use Rattle.names.specs.Limits.{entries-max}
 use Rattle.record.specs.Limits.{header-size, pair-size}
-use Rattle.record.specs.Written.{front-size}
+use Rattle.record.specs.Written.{two, front-size}
 use Rattle.record.specs.Read.{number-of-two, count-in, pairs-from, is-body}
 
 -- offset and length of the i-th body
 abbrev pub pair-at : Bytes → ℕ → ℕ × ℕ
 pair-at bs i = (number-of-two (drop (front-size i) bs), number-of-two (drop (front-size i + 2) bs))
+
+-- a pair as it stands in the bytes
+abbrev pub pair-bytes : ℕ × ℕ → Bytes
+pair-bytes p = two (p .0) ++ two (p .1)
 
 -- the body that a pair names starts at `at`, lies within the bytes and is lawful
 unfoldable pub body-stands : ℕ → ℕ × ℕ → Bytes → Bool
