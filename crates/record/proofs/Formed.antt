@@ -2,7 +2,7 @@
 use mathlib.Core.Path.{_≡_, refl, sym, _∙_, ap, subst}
 use mathlib.Core.Bool.{Bool, true, false, cond, _&&_}
 use mathlib.Core.List.{List, [], _∷_, _++_, map}
-use Prim.Native.Nat.{ℕ, zero, suc, _+_, _*_, _<_, _≤_}
+use Prim.Native.Nat.{ℕ, zero, suc, _+_, _-_, _*_, _<_, _≤_}
 use native.Mathlib.Omega.{arith}
 use lib.Dec.{eqb, leb}
 use lib.ListN.{length, take, drop, getD}
@@ -10,7 +10,7 @@ use Rattle.std.specs.shelf.Lists.{All, joined as joined-by}
 use Rattle.std.specs.shelf.Text.{sameBytes}
 use Rattle.std.proofs.shelf.Lists.{append-assoc, length-append, length-map, take-at, drop-at, take-append-drop, drop-drop, drop-more, take-more, joined-more, at-drop-more}
 use lib.Seq.{take-add}
-use Rattle.std.proofs.shelf.Tests.{both-ways, and-parts, and-from, eq-eqb, eqb-true, le-leb, leb-true}
+use Rattle.std.proofs.shelf.Tests.{both-ways, and-parts, and-from, and-left, and-right, eq-eqb, ne-eqb, eqb-true, le-leb, lt-leb, leb-true}
 use Rattle.std.proofs.shelf.Equals.{sameBytes-decides}
 use Rattle.names.specs.Names.{Bytes}
 use Rattle.record.specs.Entries.{EntryValue, Fitting}
@@ -164,3 +164,36 @@ next-pair bs n i h j b =
 
 pub formed-long : (bs : Bytes) → well-formed bs ≡ true → 5 ≤ length bs
 formed-long bs h = leb-true 5 (length bs) (and-parts (leb 5 (length bs)) _ (and-parts (leb 5 (length bs) && (leb 1 (count-in bs) && leb (count-in bs) 28)) _ h .0) .0)
+
+-- what a body that a pair names is, seen from where it should start
+module _ (bs : Bytes) (at : ℕ) (p : ℕ × ℕ) where
+  pub off-start : (p .0 ≡ at → ⊥) → body-stands at p bs ≡ false
+  unfolding body-stands
+  off-start h = and-left _ _ (and-left (eqb (p .0) at) _ (ne-eqb (p .0) at h))
+
+  pub past-end : length bs < at + p .1 → body-stands at p bs ≡ false
+  unfolding body-stands
+  past-end h = and-left _ _ (and-right (eqb (p .0) at) _ (lt-leb (at + p .1) (length bs) h))
+
+  pub no-body : p .0 ≡ at → is-body (take (at + p .1 - at) (drop at bs)) ≡ false → body-stands at p bs ≡ false
+  unfolding body-stands
+  no-body e h =
+      let n : at + p .1 - at ≡ p .1 = omega arith in
+      and-right (eqb (p .0) at && leb (at + p .1) (length bs)) _ ((λ i. is-body (take (sym n i) (drop (e i) bs))) ∙ h)
+
+  pub stands : p .0 ≡ at → at + p .1 ≤ length bs → is-body (take (at + p .1 - at) (drop at bs)) ≡ true → body-stands at p bs ≡ true
+  unfolding body-stands
+  stands e l h =
+      let n : at + p .1 - at ≡ p .1 = omega arith in
+      and-from _ _ (and-from _ _ (eq-eqb (p .0) at e) (le-leb _ _ l)) ((λ i. is-body (take (sym n i) (drop (e i) bs))) ∙ h)
+
+pub ill-bodies : (bs : Bytes) → bodies-stand (front-size (count-in bs)) (pairs-from (count-in bs) (drop 5 bs)) bs ≡ false → well-formed bs ≡ false
+ill-bodies bs h = and-right (leb 5 (length bs) && (leb 1 (count-in bs) && leb (count-in bs) 28)) _ (and-right (leb (front-size (count-in bs)) (length bs)) _ h)
+
+pub formed-if : (bs : Bytes) → 5 ≤ length bs → 1 ≤ count-in bs → count-in bs ≤ 28 → front-size (count-in bs) ≤ length bs → well-formed bs ≡ bodies-stand (front-size (count-in bs)) (pairs-from (count-in bs) (drop 5 bs)) bs
+formed-if bs a b d e =
+    let p = le-leb 5 (length bs) a in
+    let q = le-leb 1 (count-in bs) b in
+    let r = le-leb (count-in bs) 28 d in
+    let s = le-leb (front-size (count-in bs)) (length bs) e in
+    λ i. (p i && (q i && r i)) && (s i && bodies-stand (front-size (count-in bs)) (pairs-from (count-in bs) (drop 5 bs)) bs)

@@ -9,3 +9,4 @@ pub mod Chain
 pub mod Held
 pub mod Finished
 pub mod Formed
+pub mod Views

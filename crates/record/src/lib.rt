@@ -2,11 +2,14 @@ mod buffer;
 mod decode;
 mod entry;
 mod finished;
+mod form;
 pub mod limits;
+mod view;
 mod writer;
 
 pub use entry::Entry;
 pub use entry::Kind;
 pub use finished::Record;
+pub use view::RecordView;
 pub use writer::RecordWriter;
 pub use writer::methods::Full;
