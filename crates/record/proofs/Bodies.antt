@@ -75,7 +75,7 @@ no-kind b k s ek es f h = by (is-body b) refl
         let K : kind-from (getD b 0 0) (number-of-four (drop 3 b)) ≡ kind-from k s = (λ i. kind-from (ek i) (es i)) in
         let p : kind-byte (kind-from k s) ≡ k = ap kind-byte (sym K) ∙ ap (λ x. getD x 0 0) w ∙ ek in
         let q : stamp-of (kind-from k s) ≡ s =
-          sym (four-back (stamp-of (kind-from k s)) (stamp-below k s f)) ∙ ap (λ x. number-of-four (four (stamp-of x))) (sym K) ∙ ap (λ x. number-of-four (drop 3 x)) w ∙ es in
+        sym (four-back (stamp-of (kind-from k s)) (stamp-below k s f)) ∙ ap (λ x. number-of-four (four (stamp-of x))) (sym K) ∙ ap (λ x. number-of-four (drop 3 x)) w ∙ es in
         absurd (h p q)
 
 -- a body in its parts

@@ -94,6 +94,6 @@ finished stamp ps bs h k =
     let b = bodies-are (parts ps bs) k in
     let z : front-size (length ps) ≡ front-size (length ps) + 0 = omega arith in
     let p : pairs (front-size (length es)) (map body es) ≡ joined-by (pair (front-size (length ps))) ps =
-      (λ i. pairs (front-size (n i)) (b i)) ∙ ap (λ x. pairs x (parts ps bs)) z ∙ pairs-are (front-size (length ps)) 0 ps bs h in
+    (λ i. pairs (front-size (n i)) (b i)) ∙ ap (λ x. pairs x (parts ps bs)) z ∙ pairs-are (front-size (length ps)) 0 ps bs h in
     let j : joined (map body es) ≡ bs = ap joined b ∙ joined-are 0 ps bs h in
     λ i. four stamp ++ (sym n i ∷ (sym p i ++ sym j i))

@@ -86,7 +86,7 @@ formed-is-record bs h f j =
     let l : length (entries-in bs) ≡ n = length-map (parts ps bs) entry-from ∙ length-map ps _ ∙ length-pairs-from n (drop 5 bs) in
     let z : front-size n ≡ 0 + front-size n = omega arith in
     let p : pairs (front-size (length (entries-in bs))) (map body (entries-in bs)) ≡ take (4 * n) (drop 5 bs) =
-      (λ i. pairs (front-size (l i)) (b i)) ∙ ap (λ x. pairs x (parts ps bs)) z ∙ pairs-are 0 (front-size n) ps bs (c .0) ∙ from-zero ps ∙ j in
+    (λ i. pairs (front-size (l i)) (b i)) ∙ ap (λ x. pairs x (parts ps bs)) z ∙ pairs-are 0 (front-size n) ps bs (c .0) ∙ from-zero ps ∙ j in
     let q : joined (map body (entries-in bs)) ≡ drop (front-size n) bs = ap joined b ∙ joined-are (front-size n) ps bs (c .0) in
     let e : written (number-of-four bs) (entries-in bs) ≡ bs = (λ i. f i ++ (l i ∷ (p i ++ q i))) ∙ cut bs n (leb-true 5 (length bs) (u .0)) in
     and-from _ _ (and-from _ _ (ap (leb 1) l ∙ v .0) (ap (λ x. leb x 28) l ∙ v .1)) (and-from _ _ (bodies-named (parts ps bs) (c .1)) (sameBytes-decides _ _ .1 e))
@@ -109,7 +109,7 @@ written-stand at front (e ∷ es) f h =
     let r = written-stand (at + length b) (front ++ b) es (f .1) l in
     let a = append-assoc front b rest in
     and-from _ _ (and-from _ _ (and-from _ _ (eq-eqb at at refl) k) i)
-      (ap (bodies-stand (at + length b) (spans (at + length b) (map body es))) (sym a) ∙ r)
+    (ap (bodies-stand (at + length b) (spans (at + length b) (map body es))) (sym a) ∙ r)
 
 written-formed : (s : ℕ) (es : List EntryValue) → Writable s es → well-formed (written s es) ≡ true
 unfolding written
@@ -126,8 +126,8 @@ written-formed s es w =
     let k = length-append front (joined bs) in
     let r = written-stand at front es (w .fitting) l in
     and-from _ _
-      (and-from _ _ (le-leb 5 _ (omega arith)) (and-from _ _ (le-leb 1 n (w .some)) (le-leb n 28 few)))
-      (and-from _ _ (le-leb at _ (omega arith)) (ap (λ ps. bodies-stand at ps (front ++ joined bs)) p ∙ r))
+    (and-from _ _ (le-leb 5 _ (omega arith)) (and-from _ _ (le-leb 1 n (w .some)) (le-leb n 28 few)))
+    (and-from _ _ (le-leb at _ (omega arith)) (ap (λ ps. bodies-stand at ps (front ++ joined bs)) p ∙ r))
 
 -- a record is well formed
 pub record-is-formed : (bs : Bytes) → is-record bs ≡ true → well-formed bs ≡ true

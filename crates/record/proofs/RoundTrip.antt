@@ -114,13 +114,15 @@ record-is-written bs h =
     let w : written s es ≡ bs = sameBytes-decides _ _ .0 (v .1) in
     let few = leb-true (length es) 28 (u .1) in
     let b : map entry-from (map body es) ≡ es = sym (entries-back s es few (v .0)) ∙ ap entries-in w in
-    let F : ℕ → Type 0 = λ n. n < 2 ^ 32 in
-    (w, record {
-      stamp-fits = subst F (ap number-of-four w) (stamp-fits s es);
-      some = leb-true 1 (length es) (u .0);
-      few = few;
-      fitting = same-fitting es (v .0) b;
-    })
+    let F : ℕ → Type 0 = λ n. n < 2 ^ 32 in (
+      w,
+      record {
+        stamp-fits = subst F (ap number-of-four w) (stamp-fits s es);
+        some = leb-true 1 (length es) (u .0);
+        few = few;
+        fitting = same-fitting es (v .0) b;
+      },
+    )
 
 pub exact : Exact
 unfolding read

@@ -1,7 +1,7 @@
 ghost use mathlib.Core.Path.{_≡_};
 ghost use mathlib.Core.Bool.{true, false};
 ghost use mathlib.Core.List.{_++_};
-ghost use Prim.Native.Nat.{_+_, _≤_};
+ghost use Prim.Native.Nat.{_+_, _^_, _<_, _≤_};
 ghost use lib.ListN.{length, take, drop};
 ghost use Rattle.std.specs.Options.{Cases};
 ghost use Rattle.record.specs.Entries.{stamp-of};
@@ -38,6 +38,7 @@ pub(crate) fn u32_at(bytes: &[u8], at: usize) -> u32
 pub(crate) fn pair_of(bytes: &[u8], i: usize) -> (usize, usize)
     requires { ⌜ front-size (i + 1) ≤ length (now bytes) ⌝ }
     ensures value { λ r. ⌜ r ≡ pair-at (now (bytes .entry)) i ⌝ }
+    ensures small { λ r. ⌜ (r .0 < 2 ^ 16) × (r .1 < 2 ^ 16) ⌝ }
     ensures bytes { λ r. ⌜ two (r .0) ++ two (r .1) ≡ take 4 (drop (front-size i) (now (bytes .entry))) ⌝ }
 {
     let at = HEADER_SIZE + PAIR_SIZE * i;
@@ -51,13 +52,7 @@ fn kind_of(code: u8, stamp: u32) -> Option<Kind>
     match code {
         0 => Some(Kind::Script(stamp)),
         1 => Some(Kind::Need(stamp)),
-        2 => {
-            if stamp == 0 {
-                Some(Kind::Absent)
-            } else {
-                None
-            }
-        }
+        2 => { if stamp == 0 { Some(Kind::Absent) } else { None } }
         _ => None,
     }
 }

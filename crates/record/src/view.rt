@@ -2,9 +2,10 @@ ghost use mathlib.Core.Path.{_≡_};
 ghost use Rattle.std.specs.Options.{Cases, mapped};
 ghost use Rattle.std.specs.shelf.Maps.{nth};
 ghost use Rattle.std.specs.declared.option.Option.the-variants.{None as Missing};
+ghost use Rattle.names.specs.Names.{Bytes};
 ghost use Rattle.record.specs.Read.{read as record-in, entries-in};
 ghost use Rattle.record.specs.Values.{value-of};
-ghost use Rattle.record.specs.Views.{Shows, bytes-under, entry-at};
+ghost use Rattle.record.specs.Views.{Shows, entry-at};
 use crate::decode::entry_of;
 use crate::decode::pair_of;
 use crate::decode::u32_at;
@@ -17,7 +18,7 @@ use crate::limits::PAIR_SIZE;
 #[derive(Clone, Copy)]
 pub struct RecordView<'a> {
     stamp: u32,
-    count: usize,
+    count: u8,
     bytes: &'a [u8],
 }
 
@@ -30,7 +31,43 @@ impl<'a> RecordView<'a> {
             return None;
         }
         let stamp = u32_at(bytes, 0);
-        let count = bytes[4] as usize;
-        Some(RecordView { stamp, count, bytes })
+        let count = bytes[4];
+        Some(RecordView {
+            stamp,
+            count,
+            bytes,
+        })
+    }
+    /// The page's stamp.
+    pub fn stamp(&self) -> u32
+        ensures { λ r. ⌜ r ≡ now (self .entry) .stamp ⌝ }
+    {
+        self.stamp
+    }
+
+    /// The number of entries.
+    pub fn len(&self) -> usize
+        ensures { λ r. ⌜ r ≡ now (self .entry) .count ⌝ }
+    {
+        self.count as usize
+    }
+
+    /// The i-th entry, counted from 0.
+    pub fn entry(&self, i: usize) -> Option<Entry>
+        ensures value { λ r. ⌜ mapped value-of r ≡ entry-at (now (self .entry)) i ⌝ }
+        ensures item { λ r. ⌜ ((bs : Bytes) → Shows bs (now (self .entry)) → mapped value-of r ≡ nth (entries-in bs) i) ⌝ }
+    {
+        if i >= self.count as usize {
+            return None;
+        }
+        let end = HEADER_SIZE + PAIR_SIZE * (i + 1);
+        if end > self.bytes.len() {
+            return None;
+        }
+        let (offset, len) = pair_of(self.bytes, i);
+        if offset + len > self.bytes.len() {
+            return None;
+        }
+        entry_of(&self.bytes[offset..offset + len])
     }
 }

@@ -23,8 +23,7 @@ returns c =
     let n = c .in-Some-new .ensures tt ∙ take-rest b 7 in
     let s = c .u32-at .ensures in
     let l = c .u16-at-line .ensures in
-    let e : c .in-Some .kind ≡ kind-from (getD b 0 0) (number-of-four (drop 3 b)) = k .0 ∙ ap (kind-from (getD b 0 0)) (s .value) in
-    (
+    let e : c .in-Some .kind ≡ kind-from (getD b 0 0) (number-of-four (drop 3 b)) = k .0 ∙ ap (kind-from (getD b 0 0)) (s .value) in (
       a-body b (c .in-Some .kind) (c .if-body-lt-HEAD-SIZE .left) e (k .1) (ap four (k .2) ∙ s .bytes) (ap two (sym (l .value)) ∙ l .bytes) (ap is-name (sym n) ∙ c .in-Some-new .name .lawful),
-      (λ i. record { kind = e i; line = l .value i; name = n i })
+      (λ i. record { kind = e i; line = l .value i; name = n i }),
     )

@@ -18,8 +18,9 @@ returns c =
     let n = (let z : at + 2 + 1 ≡ at + 3 = omega arith in z) in
     record {
       value = λ i. (c .u16-at .ensures .value i, c .u16-at-2 .ensures .value i);
+      small = (c .u16-at .ok, c .u16-at-2 .ok);
       bytes =
-        (λ i. c .u16-at .ensures .bytes i ++ c .u16-at-2 .ensures .bytes i) ∙ (λ i. take 2 (f i) ++ take 2 (g i))
-        ∙ ap (λ k. getD bs at 0 ∷ getD bs (at + 1) 0 ∷ getD bs (at + 2) 0 ∷ getD bs k 0 ∷ []) n
-        ∙ sym (ap (take 4) e);
+          (λ i. c .u16-at .ensures .bytes i ++ c .u16-at-2 .ensures .bytes i) ∙ (λ i. take 2 (f i) ++ take 2 (g i))
+          ∙ ap (λ k. getD bs at 0 ∷ getD bs (at + 1) 0 ∷ getD bs (at + 2) 0 ∷ getD bs k 0 ∷ []) n
+          ∙ sym (ap (take 4) e);
     }

@@ -28,8 +28,7 @@ loop-i-again c =
     let n = count-in bs in
     let ps = pairs-from n (drop 5 bs) in
     let s = next-body bs n (c .loop-i .at) i (c .loop-i-test .taken) in
-    let f = c .in-Some .ensures tt .cases in
-    (
+    let f = c .in-Some .ensures tt .cases in (
       ap (λ e. bodies-stand e (drop (i + 1) ps) bs) (f .1) ∙ sym (s ∙ ap (λ b. b && bodies-stand (c .loop-i .at + pair-at bs i .1) (drop (i + 1) ps) bs) (f .0)) ∙ c .loop-i .inv .0,
       next-pair bs n i (c .loop-i-test .taken) (c .loop-i .inv .1) (c .in-Some .ensures tt .bytes),
       f .2,

@@ -30,8 +30,8 @@ returns c =
     let b = length-body (value-of e) in
     record {
       bytes =
-        c .append-2 .ensures .bytes ∙ (λ i. c .append .ensures .bytes i ++ n i) ∙ append-assoc (filled s) (c .head .result) (spelled (e .name))
-        ∙ ap (λ x. filled s ++ (x ++ spelled (e .name))) h;
+          c .append-2 .ensures .bytes ∙ (λ i. c .append .ensures .bytes i ++ n i) ∙ append-assoc (filled s) (c .head .result) (spelled (e .name))
+          ∙ ap (λ x. filled s ++ (x ++ spelled (e .name))) h;
       len = omega (arith, c .append .ensures .len, c .append-2 .ensures .len);
       room = omega (arith, c .append .ensures .len, c .append-2 .ensures .len);
       fitting = record {

@@ -35,12 +35,11 @@ loop-i-again c =
     let s = c .args .self .now in
     let i = c .loop-i .i in
     let f = pair (front-size (s .count)) in
-    let front = four (c .args .stamp) ++ (s .count ∷ []) in
-    (
+    let front = four (c .args .stamp) ++ (s .count ∷ []) in (
       c .append-pair .ensures .bytes ∙ ap (λ x. x ++ f (getD (s .pairs) i (0, 0))) (c .loop-i .inv .0)
-      ∙ joined-more f front (take i (s .pairs)) (getD (s .pairs) i (0, 0))
-      ∙ ap (λ x. front ++ joined-by f x) (sym (take-more (s .pairs) i (0, 0) (omega (arith, s .sized, s .few, c .loop-i-test .taken)))),
-      omega (arith, c .append-pair .ensures .len, c .loop-i .inv .1)
+          ∙ joined-more f front (take i (s .pairs)) (getD (s .pairs) i (0, 0))
+          ∙ ap (λ x. front ++ joined-by f x) (sym (take-more (s .pairs) i (0, 0) (omega (arith, s .sized, s .few, c .loop-i-test .taken)))),
+      omega (arith, c .append-pair .ensures .len, c .loop-i .inv .1),
     )
 
 -- what stands in the end
@@ -55,12 +54,11 @@ whole c =
     let o : chained 0 ps (length (filled (s .bodies))) ≡ true = ap (chained 0 ps) b ∙ s .ordered in
     let front = four (c .args .stamp) in
     let n = length-map ps _ ∙ l in
-    let k : length (bodies-of s) ≡ s .count = n in
-    (
+    let k : length (bodies-of s) ≡ s .count = n in (
       c .append-3 .ensures .bytes
-      ∙ (λ i. (c .loop-i .inv .0 ∙ ap (λ m. front ++ (s .count ∷ joined-by (pair (front-size (s .count))) (take m (s .pairs)))) e ∙ ap (λ m. front ++ (m ∷ joined-by (pair (front-size m)) ps)) (sym l)) i ++ c .as-bytes .ensures i)
-      ∙ finished (c .args .stamp) ps (filled (s .bodies)) o (s .lawful),
-      writable (c .args .stamp) (bodies-of s) (s .lawful) (c .fits .stamp .fits) (omega (arith, c .if-self-eq0 .left)) (omega (arith, s .few))
+          ∙ (λ i. (c .loop-i .inv .0 ∙ ap (λ m. front ++ (s .count ∷ joined-by (pair (front-size (s .count))) (take m (s .pairs)))) e ∙ ap (λ m. front ++ (m ∷ joined-by (pair (front-size m)) ps)) (sym l)) i ++ c .as-bytes .ensures i)
+          ∙ finished (c .args .stamp) ps (filled (s .bodies)) o (s .lawful),
+      writable (c .args .stamp) (bodies-of s) (s .lawful) (c .fits .stamp .fits) (omega (arith, c .if-self-eq0 .left)) (omega (arith, s .few)),
     )
 
 pub new-requires : need.new-requires

@@ -44,13 +44,18 @@ ghost-self c =
     let n = c .len .result - at in
     let e : c .append-body .last .self .len ≡ at + n = omega (arith, c .append-body .ensures .len, c .len .ensures, c .len-at .ensures) in
     let o : chained 0 (take (s .count) (s .pairs)) at ≡ true = ap (chained 0 (take (s .count) (s .pairs))) (c .len-at .ensures) ∙ s .ordered in
-    let b = body-is (value-of (c .args .entry .now)) (c .append-body .ensures .fitting) in
-    (
+    let b = body-is (value-of (c .args .entry .now)) (c .append-body .ensures .fitting) in (
       length-set (s .pairs) _ _ ∙ s .sized,
-      (search needs,
-      (omega (arith, c .append-body .ensures .room, s .short),
-       (ap (chained 0 (take (s .count + 1) (set (s .pairs) (s .count) (at, n)))) e ∙ pushed-order (s .pairs) (s .count) at n (omega (arith, s .sized)) o,
-        (ap are-bodies (grown c) ∙ bodies-push (bodies-of s) _ (s .lawful) b, tt))))
+      (
+        search needs,
+        (
+          omega (arith, c .append-body .ensures .room, s .short),
+          (
+            ap (chained 0 (take (s .count + 1) (set (s .pairs) (s .count) (at, n)))) e ∙ pushed-order (s .pairs) (s .count) at n (omega (arith, s .sized)) o,
+            (ap are-bodies (grown c) ∙ bodies-push (bodies-of s) _ (s .lawful) b, tt),
+          ),
+        ),
+      ),
     )
 
 pub returns : need.returns
