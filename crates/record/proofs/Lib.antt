@@ -5,4 +5,4 @@ pub mod RoundTrip
 pub mod Pushes
 pub mod Finishes
 pub mod Formed
-pub mod Entries
+pub mod Handed

@@ -10,3 +10,4 @@ pub mod Held
 pub mod Finished
 pub mod Formed
 pub mod Views
+pub mod Worked

@@ -1,4 +1,5 @@
 ghost use mathlib.Core.Path.{_≡_};
+ghost use Prim.Native.Nat.{_<_};
 ghost use Rattle.std.specs.Options.{Cases, mapped};
 ghost use Rattle.std.specs.shelf.Maps.{nth};
 ghost use Rattle.std.specs.declared.option.Option.the-variants.{None as Missing};
@@ -9,6 +10,7 @@ ghost use Rattle.record.specs.Views.{Shows, entry-at};
 use crate::decode::entry_of;
 use crate::decode::pair_of;
 use crate::decode::u32_at;
+use crate::entries::Entries;
 use crate::entry::Entry;
 use crate::form::is_formed;
 use crate::limits::HEADER_SIZE;
@@ -55,6 +57,7 @@ impl<'a> RecordView<'a> {
     /// The i-th entry, counted from 0.
     pub fn entry(&self, i: usize) -> Option<Entry>
         ensures value { λ r. ⌜ mapped value-of r ≡ entry-at (now (self .entry)) i ⌝ }
+        ensures bound { λ r. ⌜ Cases r (Unit {0}) (λ _. (i < now (self .entry) .count) × (now (self .entry) .count < 256)) ⌝ }
         ensures item { λ r. ⌜ ((bs : Bytes) → Shows bs (now (self .entry)) → mapped value-of r ≡ nth (entries-in bs) i) ⌝ }
     {
         if i >= self.count as usize {
@@ -69,5 +72,11 @@ impl<'a> RecordView<'a> {
             return None;
         }
         entry_of(&self.bytes[offset..offset + len])
+    }
+    /// The entries, in order.
+    pub fn entries(&self) -> Entries<'a>
+        ensures { λ r. ⌜ (r .view ≡ now (self .entry)) × (r .next ≡ 0) ⌝ }
+    {
+        Entries::new(*self)
     }
 }

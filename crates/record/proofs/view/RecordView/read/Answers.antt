@@ -7,7 +7,7 @@ use Rattle.record.specs.Written.{four, written}
 use Rattle.record.specs.Read.{number-of-four, entries-in, is-record}
 use Rattle.record.proofs.RoundTrip.{record-is-written, short}
 use Rattle.record.proofs.Formed.{malformed, formed-is-record, formed-long}
-use Rattle.record.proofs.Entries.{count-is, read-when, read-unless}
+use Rattle.record.proofs.Handed.{count-is, read-when, read-unless}
 use Rattle.record.proofs.view.RecordView.read.Needs as need
 
 pub returns-then-not-is-formed : need.returns-then-not-is-formed
