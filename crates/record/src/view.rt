@@ -5,6 +5,7 @@ ghost use Rattle.std.specs.shelf.Maps.{nth};
 ghost use Rattle.std.specs.declared.option.Option.the-variants.{None as Missing};
 ghost use Rattle.names.specs.Names.{Bytes};
 ghost use Rattle.record.specs.Read.{read as record-in, entries-in};
+ghost use Rattle.record.specs.Laws.{Exact};
 ghost use Rattle.record.specs.Values.{value-of};
 ghost use Rattle.record.specs.Views.{Shows, entry-at};
 use crate::decode::entry_of;
@@ -27,7 +28,8 @@ pub struct RecordView<'a> {
 impl<'a> RecordView<'a> {
     /// The record that the bytes are, if they are one.
     pub fn read(bytes: &'a [u8]) -> Option<RecordView<'a>>
-        ensures { λ r. ⌜ Cases r (record-in (now (bytes .entry)) ≡ Missing) (λ v. Shows (now (bytes .entry)) v) ⌝ }
+        ensures law { λ _. ⌜ Exact ⌝ }
+        ensures cases { λ r. ⌜ Cases r (record-in (now (bytes .entry)) ≡ Missing) (λ v. Shows (now (bytes .entry)) v) ⌝ }
     {
         if !is_formed(bytes) {
             return None;

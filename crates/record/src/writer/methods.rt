@@ -8,6 +8,7 @@ ghost use Rattle.std.specs.Results.{isOk, Cases as ByOk};
 ghost use Rattle.std.specs.Options.{Cases as BySome};
 ghost use Rattle.record.specs.Values.{value-of};
 ghost use Rattle.record.specs.Held.{entries-of};
+ghost use Rattle.record.specs.Laws.{Reads-back, Short};
 ghost use Rattle.record.specs.Finished.{bytes-of, Records};
 use super::RecordWriter;
 use crate::buffer::Buffer;
@@ -51,7 +52,8 @@ impl RecordWriter {
     }
     /// The record with this stamp and the entries so far, if there is one: no record is without entries.
     pub fn finish(&self, stamp: u32) -> Option<Record>
-        ensures { λ r. ⌜ BySome r (entries-of (now (self .entry)) ≡ []) (λ b. Records stamp (entries-of (now (self .entry))) (bytes-of b)) ⌝ }
+        ensures law { λ _. ⌜ Reads-back × Short ⌝ }
+        ensures cases { λ r. ⌜ BySome r (entries-of (now (self .entry)) ≡ []) (λ b. Records stamp (entries-of (now (self .entry))) (bytes-of b)) ⌝ }
     {
         if self.count == 0 {
             return None;

@@ -20,7 +20,9 @@ use Rattle.record.proofs.writer.RecordWriter.finish.Needs.{After-append-3}
 
 pub returns-then-self-eq0 : need.returns-then-self-eq0
 unfolding entries-of
-returns-then-self-eq0 c = let s = c .args .self .now in ap (λ n. map entry-from (parts (take n (s .pairs)) (filled (s .bodies)))) (c .if-self-eq0 .taken)
+returns-then-self-eq0 c =
+    let s = c .args .self .now in
+    record { law = (reads-back, short); cases = ap (λ n. map entry-from (parts (take n (s .pairs)) (filled (s .bodies)))) (c .if-self-eq0 .taken) }
 
 pub add-base-in-loop-i : need.add-base-in-loop-i
 add-base-in-loop-i c =
@@ -69,7 +71,10 @@ returns c =
     let w = whole (need.at·returns c .After-append-3) in
     let e = ap filled (c .new .ensures) ∙ w .0 in
     record {
-      exact = e;
-      reads-back = ap read e ∙ reads-back _ _ (w .1);
-      short = let l = short _ _ (w .1) in let k = ap length e in omega arith;
+      law = (reads-back, short);
+      cases = record {
+        exact = e;
+        reads-back = ap read e ∙ reads-back _ _ (w .1);
+        short = let l = short _ _ (w .1) in let k = ap length e in omega arith;
+      };
     }
