@@ -1,2 +1,3 @@
 pub mod hex;
+mod parse;
 pub mod words;
