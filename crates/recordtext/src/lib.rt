@@ -1,3 +1,7 @@
+mod answer;
 pub mod hex;
 mod parse;
 pub mod words;
+
+pub use answer::record_told;
+pub use answer::told_of;

@@ -1,0 +1,44 @@
+ghost use mathlib.Core.Path.{_≡_};
+ghost use Rattle.std.specs.Options.{Cases};
+ghost use Rattle.std.specs.Of.String.{string-bytes};
+ghost use Rattle.std.specs.Vec.{made};
+ghost use Rattle.record.specs.Read.{read};
+ghost use Rattle.record.specs.Finished.{bytes-of};
+ghost use Rattle.recordtext.specs.Hex.{hex-bytes};
+ghost use Rattle.recordtext.specs.Answers.{Tells, told, told-hex, Hexed, is-words, Answered};
+use crate::hex::bytes_of;
+use crate::hex::hex_of;
+use crate::parse::record_in;
+use crate::words::describe;
+use record::Record;
+use record::RecordView;
+use std::alloc::AllocError;
+use std::alloc::Global;
+
+/// The record that a line of words tells, if the line is exactly what `describe` tells of it.
+pub fn record_told(heap: Global, line: &str) -> Result<Option<Record>, AllocError>
+    ensures { λ r. ⌜ made r (λ o. Cases o (Unit {0}) (λ b. Tells (now (line .entry)) (bytes-of b))) ⌝ }
+{
+    let Some(record) = record_in(line) else {
+        return Ok(None);
+    };
+    let Some(view) = RecordView::read(record.as_bytes()) else {
+        return Ok(None);
+    };
+    let words = describe(heap, view)?;
+    if words.as_str() == line {
+        Ok(Some(record))
+    } else {
+        Ok(None)
+    }
+}
+
+/// What bytes are as a record, in words.
+pub fn told_of(heap: Global, bytes: &[u8]) -> Result<String, AllocError>
+    ensures { λ r. ⌜ made r (λ t. string-bytes t ≡ told (read (now (bytes .entry)))) ⌝ }
+{
+    match RecordView::read(bytes) {
+        Some(view) => describe(heap, view),
+        None => String::from_str(heap, "no record"),
+    }
+}
