@@ -42,3 +42,36 @@ pub fn told_of(heap: Global, bytes: &[u8]) -> Result<String, AllocError>
         None => String::from_str(heap, "no record"),
     }
 }
+
+// The answer to a line of words: the hex digits of the record that it tells.
+fn hexed(heap: Global, line: &str) -> Result<String, AllocError>
+    ensures { λ r. ⌜ made r (λ t. Hexed (now (line .entry)) (string-bytes t)) ⌝ }
+{
+    let Some(record) = record_told(heap, line)? else {
+        return String::from_str(heap, "refused: not a line of 1 to 28 entries");
+    };
+    hex_of(heap, record.as_bytes())
+}
+
+// The answer to hex digits: what their bytes are as a record.
+fn unhexed(heap: Global, line: &str) -> Result<String, AllocError>
+    ensures { λ r. ⌜ made r (λ t. string-bytes t ≡ told-hex (hex-bytes (now (line .entry)))) ⌝ }
+{
+    let Some(bytes) = bytes_of(heap, line.as_bytes())? else {
+        return String::from_str(heap, "refused: not pairs of hex digits");
+    };
+    told_of(heap, bytes.as_slice())
+}
+
+/// The answer to a line: of hex digits, the record in words or `no record`; of words, the record's hex digits. A line that is neither is
+/// refused.
+pub fn answer_to(heap: Global, line: &str) -> Result<String, AllocError>
+    ensures { λ r. ⌜ made r (λ t. Answered (is-words (now (line .entry))) (now (line .entry)) (string-bytes t)) ⌝ }
+{
+    let bytes = line.as_bytes();
+    if bytes.len() > 0 && bytes[0] == b's' {
+        hexed(heap, line)
+    } else {
+        unhexed(heap, line)
+    }
+}

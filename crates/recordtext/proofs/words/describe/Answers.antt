@@ -21,10 +21,9 @@ use Rattle.recordtext.proofs.words.describe.Needs as need
 pub loop-item-holds : need.loop-item-holds
 loop-item-holds c =
     let front = codes "stamp " ++ decimal (c .stamp-stamp .result) in
-    let z = ap (λ x. x .next) (c .into-iter-item-iterator .ensures .becomes) ∙ c .entries-item-items .ensures .1 in
-    (
+    let z = ap (λ x. x .next) (c .into-iter-item-iterator .ensures .becomes) ∙ c .entries-item-items .ensures .1 in (
       refl,
-      λ bs s. c .in-Continue-text .ensures tt .made ∙ sym (append-nil front) ∙ ap (λ n. front ++ joined entry-words (take n (entries-in bs))) (sym z)
+      λ bs s. c .in-Continue-text .ensures tt .made ∙ sym (append-nil front) ∙ ap (λ n. front ++ joined entry-words (take n (entries-in bs))) (sym z),
     )
 
 pub loop-item-again : need.loop-item-again
@@ -35,14 +34,13 @@ loop-item-again c =
     let i = c .loop-item .item-iterator .next in
     let words = c .as-str .result .now in
     let w : words ≡ entry-words (value-of (c .in-Some .item)) = c .as-str .ensures .value ∙ c .in-Continue-words .ensures tt in
-    let e : Some (value-of (c .in-Some .item)) ≡ entry-at v i = t .0 ∙ ap (λ (x : RecordView). entry-at x i) (c .loop-item .inv .0) in
-    (
+    let e : Some (value-of (c .in-Some .item)) ≡ entry-at v i = t .0 ∙ ap (λ (x : RecordView). entry-at x i) (c .loop-item .inv .0) in (
       t .1 ∙ c .loop-item .inv .0,
       λ bs s.
-        let was = string-bytes (c .loop-item .text) in
-        let p : string-bytes (c .push-str .last .self) ≡ (front ++ joined entry-words (take i (entries-in bs))) ++ words = pushed {was = was} words (c .loop-item .inv .1 bs s) (c .in-Continue-push-str .was tt) (c .push-str .ensures .bytes) in
-        p ∙ ap (λ x. (front ++ joined entry-words (take i (entries-in bs))) ++ x) w ∙ one-told bs v i s front (value-of (c .in-Some .item)) e
-        ∙ ap (λ n. front ++ joined entry-words (take n (entries-in bs))) (sym (t .2))
+          let was = string-bytes (c .loop-item .text) in
+          let p : string-bytes (c .push-str .last .self) ≡ (front ++ joined entry-words (take i (entries-in bs))) ++ words = pushed {was = was} words (c .loop-item .inv .1 bs s) (c .in-Continue-push-str .was tt) (c .push-str .ensures .bytes) in
+          p ∙ ap (λ x. (front ++ joined entry-words (take i (entries-in bs))) ++ x) w ∙ one-told bs v i s front (value-of (c .in-Some .item)) e
+          ∙ ap (λ n. front ++ joined entry-words (take n (entries-in bs))) (sym (t .2)),
     )
 
 pub returns : need.returns
