@@ -1,7 +1,7 @@
 ghost use mathlib.Core.Path.{_≡_};
 ghost use mathlib.Core.Bool.{cond};
 ghost use mathlib.Core.List.{[], _∷_, _++_};
-ghost use lib.Dec.{ltb};
+ghost use lib.Dec.{leb, ltb};
 ghost use lib.ListN.{length};
 ghost use Rattle.names.specs.Limits.{entries-max};
 ghost use Rattle.std.specs.Results.{isOk, Cases as ByOk};
@@ -50,6 +50,13 @@ impl RecordWriter {
         self.count = i + 1;
         Ok(())
     }
+    /// Whether there is no room for one entry more.
+    pub fn is_full(&self) -> bool
+        ensures { λ r. ⌜ r ≡ leb entries-max (length (entries-of (now (self .entry)))) ⌝ }
+    {
+        self.count == ENTRIES_MAX
+    }
+
     /// The record with this stamp and the entries so far, if there is one: no record is without entries.
     pub fn finish(&self, stamp: u32) -> Option<Record>
         ensures law { λ _. ⌜ Reads-back × Short ⌝ }
