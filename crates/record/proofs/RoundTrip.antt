@@ -2,10 +2,11 @@
 use mathlib.Core.Path.{_≡_, refl, sym, _∙_, ap, subst}
 use mathlib.Core.Bool.{Bool, true, false, cond, _&&_}
 use mathlib.Core.List.{List, [], _∷_, _++_, map}
-use Prim.Native.Nat.{ℕ, suc, _+_, _*_, _<_, _≤_, _^_}
+use Prim.Native.Nat.{ℕ, zero, suc, _+_, _*_, _<_, _≤_, _^_}
 use native.Mathlib.Omega.{arith}
 use lib.Dec.{leb}
-use lib.ListN.{length, take, drop}
+use lib.Chars.{codes}
+use lib.ListN.{length, take, drop, replicate}
 use Rattle.std.specs.shelf.Lists.{All}
 use Rattle.std.specs.shelf.Text.{sameBytes}
 use Rattle.std.specs.declared.option.Option.{Option}
@@ -18,7 +19,8 @@ use Rattle.names.proofs.Scan.{lawful-short}
 use Rattle.record.specs.Entries.{EntryValue, Fitting, stamp-of}
 use Rattle.record.specs.Written.{two, four, body, pairs, joined, front-size, written}
 use Rattle.record.specs.Read.{entry-from, entries-in, names-lawful, number-of-four, pairs-from, parts, is-record, read}
-use Rattle.record.specs.Laws.{Writable, Reads-back, Exact, Short}
+use Rattle.record.specs.Laws.{Writable, Reads-back, Exact, Short, Reached}
+use Rattle.record.specs.declared.entry.Kind.the-variants.{Absent}
 use Rattle.record.proofs.Numbers.{four-back, four-fits}
 use Rattle.record.proofs.Spans.{spans, length-pairs, pairs-back, parts-back}
 use Rattle.record.proofs.Bodies.{body-back, line-back, kind-back, length-body}
@@ -143,3 +145,19 @@ short s es w =
     let j = length-bodies es (named-from es (w .fitting)) in
     let k = w .few in
     omega arith
+
+-- 28 entries whose names have 24 letters
+longest : EntryValue
+longest = record { kind = Absent; line = 0; name = codes "abcdefghijklmnopqrstuvwx" }
+
+longest-fits : Fitting longest
+unfolding longest is-name
+longest-fits = record { lawful = refl; line-fits = omega arith; stamp-fits = omega arith }
+
+all-same : (n : ℕ) (e : EntryValue) → Fitting e → All Fitting (replicate n e)
+all-same zero e f = tt
+all-same (suc n) e f = (f, all-same n e f)
+
+pub reached : Reached
+unfolding longest written
+reached = (0, replicate 28 longest, record { stamp-fits = omega arith; some = omega arith; few = omega arith; fitting = all-same 28 longest longest-fits }, refl)

@@ -27,6 +27,10 @@ Reads-back = (stamp : ℕ) (es : List EntryValue) → Writable stamp es → read
 abbrev pub Exact : Type 0
 Exact = (bs : Bytes) (stamp : ℕ) (es : List EntryValue) → read bs ≡ Some (stamp, es) → (written stamp es ≡ bs) × Writable stamp es
 
--- no record is longer than the longest
+-- no record is longer than 985 bytes
 abbrev pub Short : Type 0
 Short = (stamp : ℕ) (es : List EntryValue) → Writable stamp es → length (written stamp es) ≤ record-max
+
+-- and one is as long
+abbrev pub Reached : Type 0
+Reached = (stamp : ℕ) × (es : List EntryValue) × Writable stamp es × (length (written stamp es) ≡ record-max)

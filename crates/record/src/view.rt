@@ -42,6 +42,7 @@ impl<'a> RecordView<'a> {
             bytes,
         })
     }
+
     /// The page's stamp.
     pub fn stamp(&self) -> u32
         ensures { λ r. ⌜ r ≡ now (self .entry) .stamp ⌝ }
@@ -75,6 +76,7 @@ impl<'a> RecordView<'a> {
         }
         entry_of(&self.bytes[offset..offset + len])
     }
+
     /// The entries, in order.
     pub fn entries(&self) -> Entries<'a>
         ensures { λ r. ⌜ (r .view ≡ now (self .entry)) × (r .next ≡ 0) ⌝ }

@@ -8,7 +8,7 @@ ghost use Rattle.std.specs.Results.{isOk, Cases as ByOk};
 ghost use Rattle.std.specs.Options.{Cases as BySome};
 ghost use Rattle.record.specs.Values.{value-of};
 ghost use Rattle.record.specs.Held.{entries-of};
-ghost use Rattle.record.specs.Laws.{Reads-back, Short};
+ghost use Rattle.record.specs.Laws.{Reads-back, Short, Reached};
 ghost use Rattle.record.specs.Finished.{bytes-of, Records};
 use super::RecordWriter;
 use crate::buffer::Buffer;
@@ -50,6 +50,7 @@ impl RecordWriter {
         self.count = i + 1;
         Ok(())
     }
+
     /// Whether there is no room for one entry more.
     pub fn is_full(&self) -> bool
         ensures { λ r. ⌜ r ≡ leb entries-max (length (entries-of (now (self .entry)))) ⌝ }
@@ -59,7 +60,7 @@ impl RecordWriter {
 
     /// The record with this stamp and the entries so far, if there is one: no record is without entries.
     pub fn finish(&self, stamp: u32) -> Option<Record>
-        ensures law { λ _. ⌜ Reads-back × Short ⌝ }
+        ensures law { λ _. ⌜ Reads-back × Short × Reached ⌝ }
         ensures cases { λ r. ⌜ BySome r (entries-of (now (self .entry)) ≡ []) (λ b. Records stamp (entries-of (now (self .entry))) (bytes-of b)) ⌝ }
     {
         if self.count == 0 {

@@ -14,7 +14,7 @@ use Rattle.record.specs.Laws.{Writable}
 use Rattle.record.specs.Filled.{filled}
 use Rattle.record.specs.Held.{bodies-of, entries-of}
 use Rattle.record.proofs.Finishes.{pair, chained-at, finished, writable}
-use Rattle.record.proofs.RoundTrip.{written-is-record, reads-back, short}
+use Rattle.record.proofs.RoundTrip.{written-is-record, reads-back, short, reached}
 use Rattle.record.proofs.writer.RecordWriter.finish.Needs as need
 use Rattle.record.proofs.writer.RecordWriter.finish.Needs.{After-append-3}
 
@@ -22,7 +22,7 @@ pub returns-then-self-eq0 : need.returns-then-self-eq0
 unfolding entries-of
 returns-then-self-eq0 c =
     let s = c .args .self .now in
-    record { law = (reads-back, short); cases = ap (λ n. map entry-from (parts (take n (s .pairs)) (filled (s .bodies)))) (c .if-self-eq0 .taken) }
+    record { law = (reads-back, short, reached); cases = ap (λ n. map entry-from (parts (take n (s .pairs)) (filled (s .bodies)))) (c .if-self-eq0 .taken) }
 
 pub add-base-in-loop-i : need.add-base-in-loop-i
 add-base-in-loop-i c =
@@ -71,7 +71,7 @@ returns c =
     let w = whole (need.at·returns c .After-append-3) in
     let e = ap filled (c .new .ensures) ∙ w .0 in
     record {
-      law = (reads-back, short);
+      law = (reads-back, short, reached);
       cases = record {
         exact = e;
         reads-back = ap read e ∙ reads-back _ _ (w .1);
