@@ -1,17 +1,16 @@
 -- The parts of a record that is written, put together.
-use mathlib.Core.Path.{_≡_, refl, sym, _∙_, ap, subst}
-use mathlib.Core.Bool.{Bool, true, false, _&&_}
+use mathlib.Core.Path.{_≡_, refl, sym, _∙_, ap}
+use mathlib.Core.Bool.{true}
 use mathlib.Core.List.{List, [], _∷_, _++_, map}
-use Prim.Native.Nat.{ℕ, zero, suc, _+_, _-_, _*_, _<_, _≤_, _^_}
+use Prim.Native.Nat.{ℕ, zero, suc, _+_, _-_, _<_, _≤_, _^_}
 use native.Mathlib.Omega.{arith}
 use lib.Dec.{eqb}
 use lib.ListN.{length, take, drop, getD}
 use Rattle.std.specs.shelf.Lists.{joined as joined-by}
-use Rattle.std.proofs.shelf.Lists.{append-assoc, drop-drop, drop-all, length-drop, length-map, length-take-le, take-append-drop}
+use Rattle.std.proofs.shelf.Lists.{drop-drop, drop-all, length-drop, length-map, length-take-le, take-append-drop}
 use Rattle.std.proofs.shelf.Tests.{and-parts, and-from, eqb-true}
 use Rattle.std.proofs.shelf.Equals.{sameBytes-decides}
 use Rattle.names.specs.Names.{Bytes, is-name}
-use Rattle.record.specs.Entries.{EntryValue, Fitting}
 use Rattle.record.specs.Written.{two, four, body, pairs, joined, front-size, written}
 use Rattle.record.specs.Read.{entry-from, parts, is-body, are-bodies, names-lawful}
 use Rattle.record.specs.Chain.{chained}

@@ -1,6 +1,6 @@
 -- A record is well formed, and bytes that are well formed are a record.
 use mathlib.Core.Path.{_≡_, refl, sym, _∙_, ap, subst}
-use mathlib.Core.Bool.{Bool, true, false, cond, _&&_}
+use mathlib.Core.Bool.{Bool, true, false, _&&_}
 use mathlib.Core.List.{List, [], _∷_, _++_, map}
 use Prim.Native.Nat.{ℕ, zero, suc, _+_, _-_, _*_, _<_, _≤_}
 use native.Mathlib.Omega.{arith}
@@ -10,17 +10,17 @@ use Rattle.std.specs.shelf.Lists.{All, joined as joined-by}
 use Rattle.std.specs.shelf.Text.{sameBytes}
 use Rattle.std.proofs.shelf.Lists.{append-assoc, length-append, length-map, take-at, drop-at, take-append-drop, drop-drop, drop-more, take-more, joined-more, at-drop-more}
 use lib.Seq.{take-add}
-use Rattle.std.proofs.shelf.Tests.{both-ways, and-parts, and-from, and-left, and-right, eq-eqb, ne-eqb, eqb-true, le-leb, lt-leb, leb-true}
+use Rattle.std.proofs.shelf.Tests.{both-ways, and-parts, and-from, and-left, and-right, eq-eqb, ne-eqb, le-leb, lt-leb, leb-true}
 use Rattle.std.proofs.shelf.Equals.{sameBytes-decides}
 use Rattle.names.specs.Names.{Bytes}
 use Rattle.record.specs.Entries.{EntryValue, Fitting}
 use Rattle.record.specs.Written.{two, four, body, pairs, joined, front-size, written}
-use Rattle.record.specs.Read.{number-of-two, number-of-four, count-in, entry-from, entries-in, pairs-from, parts, is-body, are-bodies, names-lawful, is-record}
+use Rattle.record.specs.Read.{number-of-two, number-of-four, count-in, entry-from, entries-in, pairs-from, parts, is-body, are-bodies, is-record}
 use Rattle.record.specs.Chain.{chained}
 use Rattle.record.specs.Formed.{pair-at, pair-bytes, body-stands, bodies-stand, well-formed}
 use Rattle.record.specs.Laws.{Writable}
 use Rattle.record.proofs.Spans.{spans, length-pairs, pairs-back}
-use Rattle.record.proofs.RoundTrip.{length-bodies, length-written, named-from, record-is-written}
+use Rattle.record.proofs.RoundTrip.{length-bodies, named-from, record-is-written}
 use Rattle.record.proofs.Pushes.{body-is}
 use Rattle.record.proofs.Finishes.{pair, bodies-are, bodies-named, pairs-are, joined-are}
 
@@ -151,6 +151,11 @@ next-body bs n at i h =
     let e = pairs-at n i bs h in
     at-drop-more (λ x. bodies-stand at x bs) ps i (0, 0) (omega arith)
     ∙ ap (λ (p : ℕ × ℕ). body-stands at p bs && bodies-stand (at + p .1) (drop (i + 1) ps) bs) e
+
+pub after-body : (bs : Bytes) (n at i e : ℕ) → i < n → body-stands at (pair-at bs i) bs ≡ true → e ≡ at + pair-at bs i .1 → bodies-stand e (drop (i + 1) (pairs-from n (drop 5 bs))) bs ≡ bodies-stand at (drop i (pairs-from n (drop 5 bs))) bs
+after-body bs n at i e h t k =
+    let rest = drop (i + 1) (pairs-from n (drop 5 bs)) in
+    ap (λ x. bodies-stand x rest bs) k ∙ sym (next-body bs n at i h ∙ ap (λ b. b && bodies-stand (at + pair-at bs i .1) rest bs) t)
 
 pub next-pair : (bs : Bytes) (n i : ℕ) → i < n → joined-by pair-bytes (take i (pairs-from n (drop 5 bs))) ≡ take (4 * i) (drop 5 bs) → pair-bytes (pair-at bs i) ≡ take 4 (drop (front-size i) bs) → joined-by pair-bytes (take (i + 1) (pairs-from n (drop 5 bs))) ≡ take (4 * (i + 1)) (drop 5 bs)
 next-pair bs n i h j b =

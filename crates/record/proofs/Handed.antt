@@ -3,11 +3,10 @@ use mathlib.Core.Path.{_≡_, refl, sym, _∙_, ap, subst}
 use mathlib.Core.Bool.{Bool, true, false, cond, _&&_}
 use mathlib.Core.List.{List, [], _∷_, map}
 use mathlib.Core.Logic.{_⊎_, inl, inr}
-use Prim.Native.Nat.{ℕ, zero, suc, _+_, _-_, _*_, _<_, _≤_}
+use Prim.Native.Nat.{ℕ, zero, suc, _+_, _-_, _<_, _≤_}
 use native.Mathlib.Omega.{arith}
 use lib.Dec.{leb, ltb}
 use lib.ListN.{length, take, drop, getD}
-use denote.Ref.{now}
 use Rattle.std.specs.Options.{Cases, mapped}
 use Rattle.std.specs.shelf.Maps.{nth}
 use Rattle.std.specs.declared.option.Option.{Option}
@@ -19,7 +18,7 @@ use Rattle.names.specs.Names.{Bytes}
 use Rattle.record.specs.Entries.{EntryValue}
 use Rattle.record.specs.Written.{front-size}
 use Rattle.record.specs.Read.{number-of-four, count-in, entry-from, entries-in, pairs-from, parts, is-body, are-bodies, is-record, read}
-use Rattle.record.specs.Formed.{pair-at, bodies-stand, well-formed}
+use Rattle.record.specs.Formed.{pair-at}
 use Rattle.record.specs.Views.{Shows, bytes-under, part-at, has-part, entry-at}
 use Rattle.record.specs.Values.{value-of}
 use Rattle.record.specs.declared.view.RecordView.{RecordView}

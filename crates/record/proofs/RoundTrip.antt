@@ -6,7 +6,7 @@ use Prim.Native.Nat.{ℕ, zero, suc, _+_, _*_, _<_, _≤_, _^_}
 use native.Mathlib.Omega.{arith}
 use lib.Dec.{leb}
 use lib.Chars.{codes}
-use lib.ListN.{length, take, drop, replicate}
+use lib.ListN.{length, replicate}
 use Rattle.std.specs.shelf.Lists.{All}
 use Rattle.std.specs.shelf.Text.{sameBytes}
 use Rattle.std.specs.declared.option.Option.{Option}
@@ -17,16 +17,13 @@ use Rattle.std.proofs.shelf.Equals.{sameBytes-decides}
 use Rattle.names.specs.Names.{Bytes, is-name}
 use Rattle.names.proofs.Scan.{lawful-short}
 use Rattle.record.specs.Entries.{EntryValue, Fitting, stamp-of}
-use Rattle.record.specs.Written.{two, four, body, pairs, joined, front-size, written}
+use Rattle.record.specs.Written.{four, body, pairs, joined, front-size, written}
 use Rattle.record.specs.Read.{entry-from, entries-in, names-lawful, number-of-four, pairs-from, parts, is-record, read}
 use Rattle.record.specs.Laws.{Writable, Reads-back, Exact, Short, Reached}
 use Rattle.record.specs.declared.entry.Kind.the-variants.{Absent}
 use Rattle.record.proofs.Numbers.{four-back, four-fits}
 use Rattle.record.proofs.Spans.{spans, length-pairs, pairs-back, parts-back}
 use Rattle.record.proofs.Bodies.{body-back, line-back, kind-back, length-body}
-
-abbrev Named : List EntryValue → Type 0
-Named es = names-lawful es ≡ true
 
 pub named-from : (es : List EntryValue) → All Fitting es → names-lawful es ≡ true
 named-from [] f = refl

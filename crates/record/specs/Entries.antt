@@ -1,6 +1,6 @@
 -- An entry by its value: the name as its bytes.
 use mathlib.Core.Path.{_≡_}
-use mathlib.Core.Bool.{Bool, true}
+use mathlib.Core.Bool.{true}
 use Prim.Native.Nat.{ℕ, _<_, _^_}
 use Rattle.names.specs.Names.{Bytes, is-name}
 use Rattle.record.specs.declared.entry.Kind.{Kind}

@@ -1,12 +1,12 @@
 -- The form of a record, as a reader goes through the bytes.
 use mathlib.Core.Bool.{Bool, _&&_}
 use mathlib.Core.List.{List, [], _∷_, _++_}
-use Prim.Native.Nat.{ℕ, _+_, _*_}
+use Prim.Native.Nat.{ℕ, _+_}
 use lib.Dec.{eqb, leb}
 use lib.ListN.{length, take, drop}
 use Rattle.names.specs.Names.{Bytes}
 use Rattle.names.specs.Limits.{entries-max}
-use Rattle.record.specs.Limits.{header-size, pair-size}
+use Rattle.record.specs.Limits.{header-size}
 use Rattle.record.specs.Written.{two, front-size}
 use Rattle.record.specs.Read.{number-of-two, count-in, pairs-from, is-body}
 

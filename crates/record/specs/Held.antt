@@ -1,6 +1,5 @@
 -- The entries of a record that is being written.
 use mathlib.Core.List.{List, map}
-use Prim.Native.Nat.{ℕ}
 use lib.ListN.{take}
 use Rattle.names.specs.Names.{Bytes}
 use Rattle.record.specs.Entries.{EntryValue}

@@ -1,13 +1,12 @@
 -- Hex digits, written and read back.
 use mathlib.Core.Path.{_≡_, refl, sym, _∙_, ap}
-use mathlib.Core.Bool.{Bool, true, false, cond, _&&_}
-use mathlib.Core.List.{List, [], _∷_, _++_}
+use mathlib.Core.Bool.{cond, _&&_}
+use mathlib.Core.List.{[], _∷_, _++_}
 use mathlib.Core.Logic.{_⊎_, inl, inr}
 use Prim.Native.Nat.{ℕ, zero, suc, _+_, _-_, _*_, _/_, _%_, _<_, _≤_}
 use native.Mathlib.Omega.{arith}
 use lib.Dec.{leb, ltb}
 use lib.ListN.{length, getD, drop}
-use Rattle.std.specs.shelf.Lists.{All}
 use Rattle.std.specs.declared.option.Option.{Option}
 use Rattle.std.specs.declared.option.Option.the-variants.{Some, None}
 use Rattle.std.proofs.shelf.Lists.{append-assoc, append-nil, at-drop-more, at-drop-all}
@@ -46,8 +45,10 @@ hex-back (b ∷ bs) a =
     (λ i. with-byte (byte-value (p i) (q i)) (r i)) ∙ ap (λ x. Some (x ∷ bs)) e
 
 -- one byte more is written
-pub hex-more : (done : Bytes) (bs : Bytes) (i : ℕ) → i < length bs → (done ++ (digit (getD bs i 0 / 16) ∷ digit (getD bs i 0 % 16) ∷ [])) ++ hex-text (drop (i + 1) bs) ≡ done ++ hex-text (drop i bs)
-hex-more done bs i h = append-assoc done (digit (getD bs i 0 / 16) ∷ digit (getD bs i 0 % 16) ∷ []) (hex-text (drop (i + 1) bs)) ∙ ap (λ x. done ++ x) (sym (at-drop-more hex-text bs i 0 h))
+pub hex-more : (done next bs : Bytes) (i : ℕ) → i < length bs → next ≡ done ++ (digit (getD bs i 0 / 16) ∷ digit (getD bs i 0 % 16) ∷ []) → next ++ hex-text (drop (i + 1) bs) ≡ done ++ hex-text (drop i bs)
+hex-more done next bs i h e =
+    let two = digit (getD bs i 0 / 16) ∷ digit (getD bs i 0 % 16) ∷ [] in
+    ap (λ x. x ++ hex-text (drop (i + 1) bs)) e ∙ append-assoc done two (hex-text (drop (i + 1) bs)) ∙ ap (λ x. done ++ x) (sym (at-drop-more hex-text bs i 0 h))
 
 pub hex-all : (done : Bytes) (bs : Bytes) (i : ℕ) → length bs ≤ i → done ≡ done ++ hex-text (drop i bs)
 hex-all done bs i h = sym (ap (λ x. done ++ x) (at-drop-all hex-text bs i h) ∙ append-nil done)

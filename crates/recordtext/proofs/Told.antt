@@ -7,9 +7,8 @@ use native.Mathlib.Omega.{arith}
 use lib.ListN.{take}
 use Rattle.std.specs.shelf.Lists.{joined}
 use Rattle.std.specs.shelf.Maps.{nth}
-use Rattle.std.specs.declared.option.Option.{Option}
 use Rattle.std.specs.declared.option.Option.the-variants.{Some, None}
-use Rattle.std.proofs.shelf.Lists.{joined-more}
+use Rattle.std.proofs.shelf.Lists.{append-nil, joined-more}
 use Rattle.names.specs.Names.{Bytes}
 use Rattle.record.specs.Entries.{EntryValue}
 use Rattle.record.specs.Read.{entries-in}
@@ -29,11 +28,15 @@ take-every [] (suc i) h = refl
 take-every (y ∷ ys) zero h = absurd (let z : _≡_ {A = ℕ} 0 1 = cc in omega arith)
 take-every (y ∷ ys) (suc i) h = ap (λ z. y ∷ z) (take-every ys i h)
 
-module _ (bs : Bytes) (v : RecordView) (i : ℕ) (s : Shows bs v) where
-  pub one-told : (front : Bytes) (x : EntryValue) → Some x ≡ entry-at v i → (front ++ joined entry-words (take i (entries-in bs))) ++ entry-words x ≡ front ++ joined entry-words (take (i + 1) (entries-in bs))
-  one-told front x e =
-      joined-more entry-words front (take i (entries-in bs)) x
-      ∙ ap (λ l. front ++ joined entry-words l) (sym (ap (λ n. take n (entries-in bs)) (add-one i) ∙ take-one-more (entries-in bs) i x (sym (e ∙ shows-entry bs v i s))))
+pub none-told : (front text : Bytes) (n : ℕ) (es : List EntryValue) → text ≡ front → n ≡ 0 → text ≡ front ++ joined entry-words (take n es)
+none-told front text n es e z = e ∙ sym (append-nil front) ∙ ap (λ k. front ++ joined entry-words (take k es)) (sym z)
 
-  pub all-told : None ≡ entry-at v i → take i (entries-in bs) ≡ entries-in bs
-  all-told e = take-every (entries-in bs) i (sym (e ∙ shows-entry bs v i s))
+module _ (bs : Bytes) (v : RecordView) (i : ℕ) (s : Shows bs v) where
+  pub one-told : (front text words : Bytes) (x : EntryValue) (n : ℕ) → text ≡ (front ++ joined entry-words (take i (entries-in bs))) ++ words → words ≡ entry-words x → Some x ≡ entry-at v i → n ≡ i + 1 → text ≡ front ++ joined entry-words (take n (entries-in bs))
+  one-told front text words x n p w e k =
+      let es = entries-in bs in
+      let m : take n es ≡ take i es ++ x ∷ [] = ap (λ n. take n es) (k ∙ add-one i) ∙ take-one-more es i x (sym (e ∙ shows-entry bs v i s)) in
+      p ∙ ap (λ z. (front ++ joined entry-words (take i es)) ++ z) w ∙ joined-more entry-words front (take i es) x ∙ ap (λ l. front ++ joined entry-words l) (sym m)
+
+  pub all-told : (front text : Bytes) → text ≡ front ++ joined entry-words (take i (entries-in bs)) → None ≡ entry-at v i → text ≡ front ++ joined entry-words (entries-in bs)
+  all-told front text p e = p ∙ ap (λ l. front ++ joined entry-words l) (take-every (entries-in bs) i (sym (e ∙ shows-entry bs v i s)))

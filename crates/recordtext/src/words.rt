@@ -6,7 +6,6 @@ ghost use Rattle.record.specs.Read.{entries-in};
 ghost use Rattle.record.specs.Values.{value-of};
 ghost use Rattle.record.specs.Views.{Shows};
 ghost use Rattle.recordtext.specs.Words.{entry-words, record-words};
-use names::Name;
 use names::NameDisplay;
 use record::EntriesIterator;
 use record::Entry;

@@ -2,7 +2,7 @@ use mathlib.Core.Path.{_≡_, sym, _∙_, ap}
 use mathlib.Core.List.{_++_, _∷_, []}
 use Prim.Native.Nat.{_+_, _≤_}
 use native.Mathlib.Omega.{arith}
-use lib.ListN.{length, take, drop, getD}
+use lib.ListN.{length, take, getD}
 use Rattle.record.specs.Written.{front-size}
 use Rattle.record.proofs.Numbers.{two-at, four-at}
 use Rattle.record.proofs.decode.pair_of.Needs as need

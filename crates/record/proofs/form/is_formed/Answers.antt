@@ -1,6 +1,6 @@
 use mathlib.Core.Path.{_≡_, sym, _∙_, ap}
 use mathlib.Core.Bool.{true, false, _&&_}
-use Prim.Native.Nat.{ℕ, _+_, _*_, _<_, _≤_}
+use Prim.Native.Nat.{_+_, _*_}
 use native.Mathlib.Omega.{arith}
 use lib.ListN.{length, drop, take}
 use Rattle.std.specs.shelf.Lists.{joined}
@@ -8,7 +8,7 @@ use Rattle.std.proofs.shelf.Lists.{at-drop-all, take-all}
 use Rattle.std.proofs.shelf.Tests.{and-left, false≢true}
 use Rattle.record.specs.Read.{count-in, pairs-from}
 use Rattle.record.specs.Formed.{pair-at, pair-bytes, body-stands, bodies-stand}
-use Rattle.record.proofs.Formed.{length-pairs-from, next-body, next-pair, ill-bodies, formed-if}
+use Rattle.record.proofs.Formed.{length-pairs-from, next-body, after-body, next-pair, ill-bodies, formed-if}
 use Rattle.record.proofs.form.is_formed.Needs as need
 
 pub returns-in-rest : need.returns-in-rest
@@ -25,12 +25,9 @@ pub loop-i-again : need.loop-i-again
 loop-i-again c =
     let bs = c .args .bytes .now in
     let i = c .loop-i .i in
-    let n = count-in bs in
-    let ps = pairs-from n (drop 5 bs) in
-    let s = next-body bs n (c .loop-i .at) i (c .loop-i-test .taken) in
     let f = c .in-Some .ensures tt .cases in (
-      ap (λ e. bodies-stand e (drop (i + 1) ps) bs) (f .1) ∙ sym (s ∙ ap (λ b. b && bodies-stand (c .loop-i .at + pair-at bs i .1) (drop (i + 1) ps) bs) (f .0)) ∙ c .loop-i .inv .0,
-      next-pair bs n i (c .loop-i-test .taken) (c .loop-i .inv .1) (c .in-Some .ensures tt .bytes),
+      after-body bs (count-in bs) (c .loop-i .at) i (c .in-Some .end) (c .loop-i-test .taken) (f .0) (f .1) ∙ c .loop-i .inv .0,
+      next-pair bs (count-in bs) i (c .loop-i-test .taken) (c .loop-i .inv .1) (c .in-Some .ensures tt .bytes),
       f .2,
     )
 

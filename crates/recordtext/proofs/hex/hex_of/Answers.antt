@@ -1,5 +1,5 @@
 use borrow.Author.Needs.{needs}
-use mathlib.Core.Path.{_≡_, sym, _∙_, ap}
+use mathlib.Core.Path.{_∙_, ap}
 use mathlib.Core.List.{_++_}
 use Prim.Native.Nat.{_+_}
 use native.Mathlib.Omega.{arith}
@@ -14,9 +14,8 @@ returns-in-Break-push-byte c = record { law = hex-back; made = search needs }
 
 pub loop-b-again : need.loop-b-again
 loop-b-again c =
-    let bs = c .args .bytes .now in
-    let i = c .loop-b .b-index in
-    ap (λ x. x ++ hex-text (drop (i + 1) bs)) (c .in-Continue-push-byte .ensures tt) ∙ hex-more (string-bytes (c .loop-b .text)) bs i (c .loop-b-test .taken) ∙ c .loop-b .inv
+    hex-more (string-bytes (c .loop-b .text)) (string-bytes (c .push-byte .last .text)) (c .args .bytes .now) (c .loop-b .b-index) (c .loop-b-test .taken) (c .in-Continue-push-byte .ensures tt)
+    ∙ c .loop-b .inv
 
 pub returns : need.returns
 returns c = record { law = hex-back; made = hex-all _ (c .args .bytes .now) (c .loop-b .b-index) (omega arith) ∙ c .loop-b .inv }

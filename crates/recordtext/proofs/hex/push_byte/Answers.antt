@@ -1,4 +1,4 @@
-use mathlib.Core.Path.{_≡_, refl, sym, _∙_, ap}
+use mathlib.Core.Path.{_≡_, refl, _∙_, ap}
 use mathlib.Core.List.{_++_, _∷_, []}
 use lib.Utf8.{encode}
 use Rattle.std.specs.Of.String.{string-bytes}

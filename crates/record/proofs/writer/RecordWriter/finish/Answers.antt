@@ -1,13 +1,12 @@
-use borrow.Author.Needs.{needs}
-use mathlib.Core.Path.{_≡_, refl, sym, _∙_, ap, subst}
+use mathlib.Core.Path.{_≡_, sym, _∙_, ap}
 use mathlib.Core.Bool.{true}
 use mathlib.Core.List.{_++_, _∷_, [], map}
-use Prim.Native.Nat.{ℕ, _+_, _-_, _<_, _≤_}
+use Prim.Native.Nat.{ℕ, _+_, _-_}
 use native.Mathlib.Omega.{arith}
 use lib.ListN.{length, take, getD}
 use Rattle.std.specs.shelf.Lists.{joined as joined-by}
 use Rattle.std.proofs.shelf.Lists.{length-map, length-take-le, getD-take, joined-more, take-more}
-use Rattle.record.specs.Written.{two, four, front-size, written}
+use Rattle.record.specs.Written.{four, front-size, written}
 use Rattle.record.specs.Read.{parts, entry-from, is-record, read}
 use Rattle.record.specs.Chain.{chained}
 use Rattle.record.specs.Laws.{Writable}
