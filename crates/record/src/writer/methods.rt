@@ -21,6 +21,13 @@ use names::limits::ENTRIES_MAX;
 #[derive(Clone, Copy)]
 pub struct Full;
 
+// Whether a record with so many entries has room for one more.
+fn has_room(count: usize) -> bool
+    ensures { λ r. ⌜ r ≡ ltb count entries-max ⌝ }
+{
+    count < ENTRIES_MAX
+}
+
 impl RecordWriter {
     /// A record with no entry yet.
     pub fn new() -> RecordWriter
@@ -39,7 +46,7 @@ impl RecordWriter {
         ensures cases { λ r. ⌜ ByOk r (λ _. entries-of (now (self .exit)) ≡ entries-of (now (self .entry)) ++ value-of (now (entry .entry)) ∷ []) (λ _. now (self .exit) ≡ now (self .entry)) ⌝ }
     {
         let i = self.count;
-        if i >= ENTRIES_MAX {
+        if !has_room(i) {
             return Err(Full);
         }
         let at = self.bodies.len();
@@ -54,7 +61,7 @@ impl RecordWriter {
     pub fn is_full(&self) -> bool
         ensures { λ r. ⌜ r ≡ leb entries-max (length (entries-of (now (self .entry)))) ⌝ }
     {
-        self.count == ENTRIES_MAX
+        !has_room(self.count)
     }
 
     /// The record with this stamp and the entries so far, if there is one: no record is without entries.

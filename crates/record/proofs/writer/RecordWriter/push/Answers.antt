@@ -7,7 +7,7 @@ use native.Mathlib.Omega.{arith}
 use lib.Dec.{ltb}
 use lib.ListN.{length, take, set}
 use Rattle.std.proofs.shelf.Lists.{length-set, length-take-le}
-use Rattle.std.proofs.shelf.Tests.{lt-ltb, le-ltb}
+use Rattle.std.proofs.shelf.Tests.{ltb-true}
 use Rattle.record.specs.Written.{body}
 use Rattle.record.specs.Read.{parts, are-bodies, entry-from}
 use Rattle.record.specs.Chain.{chained}
@@ -18,12 +18,12 @@ use Rattle.record.proofs.Pushes.{pushed-order, pushed-parts, bodies-push, body
 use Rattle.record.proofs.writer.RecordWriter.push.Needs as need
 use Rattle.record.proofs.writer.RecordWriter.push.Needs.{After-len}
 
-pub returns-then-i-ge-ENTRIES-MAX : need.returns-then-i-ge-ENTRIES-MAX
+pub returns-then-not-has-room : need.returns-then-not-has-room
 unfolding entries-of
-returns-then-i-ge-ENTRIES-MAX c =
+returns-then-not-has-room c =
     let s = c .args .self .now in
     let l = count-entries (s .pairs) (s .count) (filled (s .bodies)) (omega (arith, s .sized)) in
-    record { test = sym (ap (λ n. ltb n 28) l ∙ le-ltb (s .count) 28 (c .if-i-ge-ENTRIES-MAX .taken)); cases = search needs }
+    record { test = c .if-not-has-room .ensures tt ∙ sym (ap (λ n. ltb n 28) l); cases = search needs }
 
 -- the bodies are one more
 grown : (c : need.After-len) →
@@ -35,7 +35,7 @@ grown c =
     let a : c .len-at .result ≡ length (filled (s .bodies)) = c .len-at .ensures ∙ sym (length-take-le (s .bodies .len) (s .bodies .bytes) (omega (arith, s .bodies .sized, s .bodies .short))) in
     let n : c .len .result - c .len-at .result ≡ length b = omega (arith, c .append-body .ensures .len, c .len .ensures, c .len-at .ensures) in
     let o : chained 0 (take (s .count) (s .pairs)) (c .len-at .result) ≡ true = ap (chained 0 (take (s .count) (s .pairs))) (c .len-at .ensures) ∙ s .ordered in
-    pushed-parts (s .pairs) (s .count) (c .len-at .result) (c .len .result - c .len-at .result) (omega (arith, s .sized)) (filled (s .bodies)) b (filled (c .append-body .last .self)) a n (c .append-body .ensures .bytes) o
+    pushed-parts (s .pairs) (s .count) (c .len-at .result) (c .len .result - c .len-at .result) (omega (arith, s .sized, ltb-true (s .count) 28 (sym (c .if-not-has-room .ensures tt)))) (filled (s .bodies)) b (filled (c .append-body .last .self)) a n (c .append-body .ensures .bytes) o
 
 pub ghost-self : need.ghost-self
 ghost-self c =
@@ -51,7 +51,7 @@ ghost-self c =
         (
           omega (arith, c .append-body .ensures .room, s .short),
           (
-            ap (chained 0 (take (s .count + 1) (set (s .pairs) (s .count) (at, n)))) e ∙ pushed-order (s .pairs) (s .count) at n (omega (arith, s .sized)) o,
+            ap (chained 0 (take (s .count + 1) (set (s .pairs) (s .count) (at, n)))) e ∙ pushed-order (s .pairs) (s .count) at n (omega (arith, s .sized, ltb-true (s .count) 28 (sym (c .if-not-has-room .ensures tt)))) o,
             (ap are-bodies (grown c) ∙ bodies-push (bodies-of s) _ (s .lawful) b, tt),
           ),
         ),
@@ -64,6 +64,6 @@ returns c =
     let s = c .args .self .now in
     let l = count-entries (s .pairs) (s .count) (filled (s .bodies)) (omega (arith, s .sized)) in
     record {
-      test = sym (ap (λ n. ltb n 28) l ∙ lt-ltb (s .count) 28 (c .if-i-ge-ENTRIES-MAX .left));
+      test = c .if-not-has-room .ensures tt ∙ sym (ap (λ n. ltb n 28) l);
       cases = ap (map entry-from) (grown (need.at·returns c .After-len)) ∙ entries-push (bodies-of s) (value-of (c .args .entry .now)) (c .append-body .ensures .fitting);
     }
