@@ -1,0 +1,13 @@
+pub mod Limits
+pub mod Entries
+pub mod Values
+pub mod Written
+pub mod Read
+pub mod Laws
+pub mod Filled
+pub mod Chain
+pub mod Held
+pub mod Finished
+pub mod Formed
+pub mod Views
+pub mod Worked
