@@ -8,4 +8,3 @@ pub mod Opening
 pub mod Answered
 pub mod Trace
 pub mod Laws
-pub mod Cases

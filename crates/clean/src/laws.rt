@@ -1,12 +1,4 @@
-ghost use Rattle.clean.specs.Cases.{Worked};
 ghost use Rattle.clean.specs.Laws.{Skipped-lines-do-nothing, Evaluation-is-local, Pages-are-made-alone, Pages-are-short, Runs-make-few-entries, Trails-end-in-the-target};
-
-/// The worked cases hold of the definitions.
-pub fn worked_cases() -> u8
-    ensures { λ _. ⌜ Worked ⌝ }
-{
-    0
-}
 
 /// The laws of clean evaluation.
 pub fn laws() -> u8

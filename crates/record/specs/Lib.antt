@@ -10,4 +10,3 @@ pub mod Held
 pub mod Finished
 pub mod Formed
 pub mod Views
-pub mod Worked

@@ -6,7 +6,6 @@ mod finished;
 mod form;
 pub mod limits;
 mod view;
-mod worked;
 mod writer;
 
 pub use entries::Entries;
@@ -15,6 +14,5 @@ pub use entry::Entry;
 pub use entry::Kind;
 pub use finished::Record;
 pub use view::RecordView;
-pub use worked::worked_record;
 pub use writer::RecordWriter;
 pub use writer::methods::Full;

@@ -1,4 +1,4 @@
--- The worked cases, as one statement.
+-- The worked cases of names and clean pages.
 use mathlib.Core.Path.{_≡_}
 use mathlib.Core.List.{List, [], _∷_, _++_}
 use mathlib.Core.Bool.{Bool, true, false, cond}
@@ -36,8 +36,8 @@ crux =
     (codes "crux.star", codes "4 bright" ↵ [])
     ∷ (codes "crux.do", codes "need crux.star" ↵ (codes "copy crux.star" ↵ (codes "ifhas crux.note" ↵ (codes "copy crux.note" ↵ codes "say %")))) ∷ [])
 
-abbrev pub Worked : Type 0
-Worked =
+abbrev pub Worked-pages : Type 0
+Worked-pages =
     (is-name (replicate 24 97) ≡ true)
     × (is-name (replicate 25 97) ≡ false)
     × (is-name [] ≡ false)
