@@ -1,0 +1,4 @@
+pub mod Lists
+pub mod Unless
+pub mod Kept
+pub mod Shown
