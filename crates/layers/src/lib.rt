@@ -1,0 +1,5 @@
+mod hold;
+mod quota;
+
+pub use quota::Quota;
+pub use quota::QuotaDisk;
