@@ -8,7 +8,7 @@ use lib.ListN.{length}
 use Rattle.std.proofs.shelf.Ways.{tells}
 use Rattle.std.proofs.shelf.Tests.{not-false, le-ltb}
 use Rattle.std.specs.Options.{isSome}
-use Rattle.std.specs.declared.result.Result.the-variants.{Ok, Err}
+use Rattle.std.specs.declared.result.Result.the-variants.{Err}
 use Rattle.names.specs.Limits.{block-max}
 use Rattle.names.specs.Names.{Bytes}
 use Rattle.disk.specs.declared.refusal.Refusal.the-variants.{Dark, Long, Full, Same, Missing}
@@ -16,7 +16,6 @@ use Rattle.disk.specs.Keys.{KeyId, same-key}
 use Rattle.disk.specs.DiskState.{DiskState, shown, used-at, count}
 use Rattle.disk.specs.Calls.{Answer, unless, dark, full, store, rename, remove, settle}
 use Rattle.disk.specs.Lawful.{Lawful}
-use Rattle.disk.specs.Restart.{Restarted}
 use Rattle.disk.proofs.Unless.{unless-alike}
 use Rattle.layers.specs.Capped.{capped, Capped, over}
 

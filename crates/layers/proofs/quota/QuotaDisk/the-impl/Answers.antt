@@ -1,5 +1,4 @@
 use mathlib.Core.Path.{sym, subst}
-use Rattle.disk.specs.DiskState.{DiskState}
 use Rattle.disk.specs.Lawful.{Lawful}
 use Rattle.layers.proofs.Mirrored.{capped-lawful}
 use Rattle.layers.proofs.quota.QuotaDisk.the-impl.Needs as need
