@@ -2,3 +2,4 @@ pub mod Lists
 pub mod Unless
 pub mod Kept
 pub mod Shown
+pub mod Steady

@@ -4,3 +4,6 @@ pub mod Lawful
 pub mod Calls
 pub mod Restart
 pub mod Blocks
+pub mod Perform
+pub mod Steady
+pub mod Alike

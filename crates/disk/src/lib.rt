@@ -1,9 +1,14 @@
 mod block;
+mod call;
 mod disk;
 mod key;
 mod refusal;
 
 pub use block::Block;
+pub use call::Call;
+pub use call::Reply;
+pub use call::cut_power;
+pub use call::perform;
 pub use disk::Disk;
 pub use key::Key;
 pub use key::KeyEq;
