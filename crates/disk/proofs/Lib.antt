@@ -3,3 +3,4 @@ pub mod Unless
 pub mod Kept
 pub mod Shown
 pub mod Steady
+pub mod Alike

@@ -1,10 +1,10 @@
 -- What the keys show after a call, and what a read says of them.
-use mathlib.Core.Path.{_≡_, refl, sym, ap, subst, _∙_}
-use mathlib.Core.List.{List, [], _∷_, _++_}
-use mathlib.Core.Bool.{Bool, true, false, cond, not, _&&_, _||_}
+use mathlib.Core.Path.{_≡_, refl, ap, _∙_}
+use mathlib.Core.List.{_++_}
+use mathlib.Core.Bool.{Bool, true, false, not, _&&_}
 use Prim.Native.Nat.{ℕ}
 use native.Mathlib.Omega.{arith}
-use lib.Dec.{eqb, ltb}
+use lib.Dec.{ltb}
 use lib.ListN.{length, drop}
 use Rattle.std.specs.Options.{isSome}
 use Rattle.std.specs.declared.option.Option.{Option}
@@ -16,8 +16,8 @@ use Rattle.disk.specs.declared.refusal.Refusal.the-variants.{Dark, Long, Full,
 use Rattle.names.specs.Limits.{block-max}
 use Rattle.names.specs.Names.{Bytes}
 use Rattle.disk.specs.Keys.{KeyId, same-key}
-use Rattle.disk.specs.DiskState.{Content, Mark, firm, either, loose, is-firm, Cell, used, DiskState, shown}
-use Rattle.disk.specs.Calls.{Answer, unless, dark, full, put, marked, store, rename, remove, settle, read, read-into}
+use Rattle.disk.specs.DiskState.{Content, is-firm, Cell, DiskState, shown}
+use Rattle.disk.specs.Calls.{Answer, dark, full, put, marked, store, rename, remove, settle, read, read-into}
 use Rattle.disk.proofs.Lists.{by-cases, same-key-sym}
 use Rattle.disk.proofs.Unless.{unless-has}
 use Rattle.std.proofs.shelf.Tests.{both-ways, cond-true, cond-false}

@@ -1,12 +1,11 @@
 -- Every call and every restart keeps the limit and what the count counts.
-use mathlib.Core.Path.{_≡_, refl, sym, ap, subst, _∙_}
-use mathlib.Core.Bool.{Bool, true, false, cond, not, _&&_}
-use mathlib.Core.Logic.{_⊎_, inl, inr}
-use Prim.Native.Nat.{ℕ, suc, _≤_, _<_}
+use mathlib.Core.Path.{_≡_, refl, ap, subst, _∙_}
+use mathlib.Core.Bool.{true, false, not, _&&_}
+use Prim.Native.Nat.{ℕ, _≤_}
 use native.Mathlib.Omega.{arith}
 use lib.Dec.{leb, ltb}
 use lib.ListN.{length}
-use Rattle.std.proofs.shelf.Tests.{leb-false, not-false, not-from-true, cond-false}
+use Rattle.std.proofs.shelf.Tests.{leb-false, not-false, cond-false}
 use Rattle.std.specs.Options.{isSome}
 use Rattle.std.specs.declared.option.Option.the-variants.{Some, None}
 use Rattle.names.specs.Limits.{block-max}
@@ -15,8 +14,8 @@ use Rattle.disk.specs.declared.refusal.Refusal.the-variants.{Dark, Long, Full,
 use Rattle.disk.specs.declared.call.Call.{Call}
 use Rattle.disk.specs.declared.call.Call.the-variants.{Count, IsUsed, Read, Store, Rename, Remove, Settle}
 use Rattle.disk.specs.Keys.{KeyId, same-key, key-of}
-use Rattle.disk.specs.DiskState.{Content, Mark, firm, either, loose, is-firm, Cell, used, DiskState, shown, used-at, count}
-use Rattle.disk.specs.Calls.{Answer, dark, full, put, marked, settled, spent, store, rename, remove, settle, keep}
+use Rattle.disk.specs.DiskState.{Content, Mark, firm, loose, is-firm, Cell, used, DiskState, shown, used-at, count}
+use Rattle.disk.specs.Calls.{Answer, dark, full, put, marked, store, rename, remove, settle}
 use Rattle.disk.specs.Restart.{Allows, Restarted}
 use Rattle.disk.specs.Lawful.{Lawful}
 use Rattle.disk.specs.Perform.{after}

@@ -6,7 +6,7 @@ use lib.ListN.{length}
 use Rattle.std.proofs.shelf.Tests.{both-ways, not-from-true}
 use Rattle.std.specs.Options.{isSome}
 use Rattle.std.specs.declared.option.Option.the-variants.{Some}
-use Rattle.std.specs.declared.result.Result.the-variants.{Ok, Err}
+use Rattle.std.specs.declared.result.Result.the-variants.{Err}
 use Rattle.names.specs.Limits.{block-max}
 use Rattle.names.specs.Names.{Bytes}
 use Rattle.disk.specs.declared.refusal.Refusal.{Refusal}

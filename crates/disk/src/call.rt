@@ -6,6 +6,7 @@ ghost use Rattle.disk.specs.Restart.{Restarted};
 ghost use Rattle.disk.specs.Perform.{reply, after, filled, replies};
 ghost use Rattle.disk.specs.Steady.{Steady, Survived};
 ghost use Rattle.disk.specs.Alike.{Alike};
+ghost use Rattle.disk.specs.declared.call.Call.{Call as CallT};
 use crate::disk::Disk;
 use crate::key::Key;
 use crate::refusal::Count;
@@ -66,4 +67,20 @@ pub fn cut_power<D: Disk>(disk: &mut D, charge: u16, pick: u16)
     ensures { λ _. ⌜ ((m : DiskState) → D·Disk .models (now (disk .entry)) m → ((n : DiskState) × (D·Disk .models (now (disk .exit)) n × (Restarted m charge n × (Survived m n × Steady m n))))) ⌝ }
 {
     disk.restart(charge, pick);
+}
+
+/// Makes the call on two disks. If they began alike, they answer alike, now and whatever calls follow.
+pub fn perform_both<A: Disk, B: Disk>(
+    first: &mut A,
+    second: &mut B,
+    call: &Call,
+    bytes: &[u8],
+    into: &mut [u8; BLOCK_MAX],
+    into_second: &mut [u8; BLOCK_MAX],
+) -> (Reply, Reply)
+    ensures alike { λ r. ⌜ ((m n : DiskState) → A·Disk .models (now (first .entry)) m → B·Disk .models (now (second .entry)) n → Alike m n → (r .0 ≡ r .1) × (now (into .entry) ≡ now («into_second» .entry) → now (into .exit) ≡ now («into_second» .exit))) ⌝ }
+    ensures later { λ _. ⌜ ((m n : DiskState) → A·Disk .models (now (first .entry)) m → B·Disk .models (now (second .entry)) n → Alike m n → ((p q : DiskState) × (A·Disk .models (now (first .exit)) p × (B·Disk .models (now (second .exit)) q × (Alike p q × ((buffer : Bytes) (calls : List (CallT × Bytes)) → replies p buffer calls ≡ replies q buffer calls)))))) ⌝ }
+{
+    let reply = perform(first, call, bytes, into);
+    (reply, perform(second, call, bytes, into_second))
 }

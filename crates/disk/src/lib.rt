@@ -9,6 +9,7 @@ pub use call::Call;
 pub use call::Reply;
 pub use call::cut_power;
 pub use call::perform;
+pub use call::perform_both;
 pub use disk::Disk;
 pub use key::Key;
 pub use key::KeyEq;

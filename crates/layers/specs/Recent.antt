@@ -1,7 +1,7 @@
 -- The holds stand in the order of their last reads, the latest first.
 use mathlib.Core.Path.{_≡_}
-use mathlib.Core.List.{List, [], _∷_, _++_, map}
-use mathlib.Core.Bool.{Bool, true, false, cond}
+use mathlib.Core.List.{List, [], _∷_, _++_}
+use mathlib.Core.Bool.{Bool, false, cond}
 use Prim.Native.Nat.{ℕ, _+_}
 use lib.ListN.{take, drop, getD}
 use Rattle.std.specs.declared.option.Option.{Option}

@@ -1,9 +1,7 @@
 -- What a two-copy disk means.
-use mathlib.Core.List.{List}
 use Rattle.std.specs.Of.Vec.{vec-items}
 use Rattle.disk.specs.Keys.{KeyId}
 use Rattle.disk.specs.DiskState.{Content, DiskState}
-use Rattle.two_copy.specs.declared.place.Place.{Place}
 use Rattle.two_copy.specs.declared.two_copy.TwoCopy.{TwoCopy}
 use Rattle.two_copy.specs.Places.{copies}
 use Rattle.two_copy.specs.Models.{Models}
