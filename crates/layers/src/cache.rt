@@ -6,7 +6,7 @@ ghost use lib.ListN.{length};
 ghost use Rattle.std.specs.declared.option.Option.the-variants.{Some, None};
 ghost use Rattle.disk.specs.Keys.{key-of};
 ghost use Rattle.disk.specs.DiskState.{DiskState};
-ghost use Rattle.disk.specs.Calls.{dark, Within, read as read-step, read-into};
+ghost use Rattle.disk.specs.Calls.{dark, Within, read as read-step, read-into, store as store-step, rename as rename-step, remove as remove-step, settle as settle-step};
 ghost use Rattle.layers.specs.Holds.{holds-max, is-for, held, forgotten, seek-hold, Agree};
 ghost use Rattle.layers.specs.Recent.{Recent, to-front};
 use crate::hold::Hold;
@@ -151,23 +151,35 @@ pub impl<D: Disk> Disk for ReadCache<D> as ReadCacheDisk {
         }
     }
 
-    fn store(&mut self, key: &Key, bytes: &[u8]) -> Result<(), Refusal> {
+    fn store(&mut self, key: &Key, bytes: &[u8]) -> Result<(), Refusal>
+        ensures { λ r. ⌜ ((m : DiskState) → D·Disk .models (now (self .entry) .below) m × Agree m (now (self .entry) .holds) → (r ≡ store-step m (key-of (now (key .entry))) (now (bytes .entry)) .0) × (D·Disk .models (now (self .exit) .below) (store-step m (key-of (now (key .entry))) (now (bytes .entry)) .1) × Agree (store-step m (key-of (now (key .entry))) (now (bytes .entry)) .1) (now (self .exit) .holds))) ⌝ }
+        ensures { λ _. ⌜ now (self .exit) .holds ≡ map (forgotten (key-of (now (key .entry)))) (now (self .entry) .holds) ⌝ }
+    {
         forget_all(&mut self.holds, key);
         self.below.store(key, bytes)
     }
 
-    fn rename(&mut self, from: &Key, to: &Key) -> Result<(), Refusal> {
+    fn rename(&mut self, from: &Key, to: &Key) -> Result<(), Refusal>
+        ensures { λ r. ⌜ ((m : DiskState) → D·Disk .models (now (self .entry) .below) m × Agree m (now (self .entry) .holds) → (r ≡ rename-step m (key-of (now (from .entry))) (key-of (now (to .entry))) .0) × (D·Disk .models (now (self .exit) .below) (rename-step m (key-of (now (from .entry))) (key-of (now (to .entry))) .1) × Agree (rename-step m (key-of (now (from .entry))) (key-of (now (to .entry))) .1) (now (self .exit) .holds))) ⌝ }
+        ensures { λ _. ⌜ now (self .exit) .holds ≡ map (forgotten (key-of (now (to .entry)))) (map (forgotten (key-of (now (from .entry)))) (now (self .entry) .holds)) ⌝ }
+    {
         forget_all(&mut self.holds, from);
         forget_all(&mut self.holds, to);
         self.below.rename(from, to)
     }
 
-    fn remove(&mut self, key: &Key) -> Result<(), Refusal> {
+    fn remove(&mut self, key: &Key) -> Result<(), Refusal>
+        ensures { λ r. ⌜ ((m : DiskState) → D·Disk .models (now (self .entry) .below) m × Agree m (now (self .entry) .holds) → (r ≡ remove-step m (key-of (now (key .entry))) .0) × (D·Disk .models (now (self .exit) .below) (remove-step m (key-of (now (key .entry))) .1) × Agree (remove-step m (key-of (now (key .entry))) .1) (now (self .exit) .holds))) ⌝ }
+        ensures { λ _. ⌜ now (self .exit) .holds ≡ map (forgotten (key-of (now (key .entry)))) (now (self .entry) .holds) ⌝ }
+    {
         forget_all(&mut self.holds, key);
         self.below.remove(key)
     }
 
-    fn settle(&mut self) -> Result<(), Refusal> {
+    fn settle(&mut self) -> Result<(), Refusal>
+        ensures { λ r. ⌜ ((m : DiskState) → D·Disk .models (now (self .entry) .below) m × Agree m (now (self .entry) .holds) → (r ≡ settle-step m .0) × (D·Disk .models (now (self .exit) .below) (settle-step m .1) × Agree (settle-step m .1) (now (self .exit) .holds))) ⌝ }
+        ensures { λ _. ⌜ now (self .exit) .holds ≡ now (self .entry) .holds ⌝ }
+    {
         self.below.settle()
     }
 

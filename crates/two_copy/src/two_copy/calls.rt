@@ -36,6 +36,13 @@ use std::alloc::Global;
 /// The bytes of memory that one key is reckoned at.
 const PLACE_BYTES: usize = 2100;
 
+// Whether a restart with that pick takes the settled contents.
+fn takes_settled(pick: u16) -> bool
+    ensures { λ r. ⌜ r ≡ eqb (pick % 2) 0 ⌝ }
+{
+    pick % 2 == 0
+}
+
 impl TwoCopy {
     /// An empty disk over that many bytes of memory. The only call that takes memory.
     pub fn new(heap: Global, bytes: usize, charge: u16) -> Result<TwoCopy, AllocError>
@@ -240,6 +247,6 @@ pub impl Disk for TwoCopy as TwoCopyDisk {
         ensures { λ _. ⌜ ((m : DiskState) → Describes (now (self .entry)) m → ((n : DiskState) × (Restarted m charge n × Describes (now (self .exit)) n))) ⌝ }
         ensures { λ _. ⌜ ((k : KeyId) → present-copy (now (self .exit)) k ≡ cond (eqb (pick % 2) 0) (settled-copy (now (self .entry)) k) (present-copy (now (self .entry)) k)) ⌝ }
     {
-        self.refresh(pick % 2 == 0, charge);
+        self.refresh(takes_settled(pick), charge);
     }
 }

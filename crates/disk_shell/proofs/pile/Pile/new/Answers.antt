@@ -23,7 +23,7 @@ returns-in-Quota c =
     let b = blank (places-in (c .args .bytes)) (c .args .charge) in
     let d = c .new-in-Quota .result in
     started (Quota d) _ _ (c .args .bytes) (c .args .charge) (c .in-Quota .is)
-      (capped-blank (λ m. Models (Quota d) m) (c .in-Quota .q) b (c .new-in-Quota .ensures b (c .in-Continue-sheet .ensures tt)))
+    (capped-blank (λ m. Models (Quota d) m) (c .in-Quota .q) b (c .new-in-Quota .ensures b (c .in-Continue-sheet .ensures tt)))
 
 pub returns-in-Shelf : need.returns-in-Shelf
 returns-in-Shelf c =
@@ -35,11 +35,11 @@ returns-in-QuotaShelf c =
     let b = blank (places-in (c .args .bytes)) (c .args .charge) in
     let d = c .new-in-QuotaShelf-2 .result in
     started (QuotaShelf d) _ _ (c .args .bytes) (c .args .charge) (c .in-QuotaShelf .is)
-      (capped-blank (λ m. Models (QuotaShelf d) m) (c .in-QuotaShelf .q) b (c .new-in-QuotaShelf-2 .ensures b (c .new-in-QuotaShelf .ensures b (c .in-Continue-sheet .ensures tt))))
+    (capped-blank (λ m. Models (QuotaShelf d) m) (c .in-QuotaShelf .q) b (c .new-in-QuotaShelf-2 .ensures b (c .new-in-QuotaShelf .ensures b (c .in-Continue-sheet .ensures tt))))
 
 pub returns-in-ShelfQuota : need.returns-in-ShelfQuota
 returns-in-ShelfQuota c =
     let b = blank (places-in (c .args .bytes)) (c .args .charge) in
     let d = c .new-in-ShelfQuota-2 .result in
     started (ShelfQuota d) _ _ (c .args .bytes) (c .args .charge) (c .in-ShelfQuota .is)
-      (capped-blank (λ m. Models (ShelfQuota d) m) (c .in-ShelfQuota .q) b (c .new-in-ShelfQuota-2 .ensures _ (c .new-in-ShelfQuota .ensures b (c .in-Continue-sheet .ensures tt))))
+    (capped-blank (λ m. Models (ShelfQuota d) m) (c .in-ShelfQuota .q) b (c .new-in-ShelfQuota-2 .ensures _ (c .new-in-ShelfQuota .ensures b (c .in-Continue-sheet .ensures tt))))

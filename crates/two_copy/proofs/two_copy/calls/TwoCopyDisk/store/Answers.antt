@@ -4,20 +4,12 @@ use native.Mathlib.Omega.{arith}
 use Rattle.std.specs.Of.Vec.{vec-items}
 use Rattle.disk.specs.Keys.{key-of}
 use Rattle.two_copy.proofs.Slots.{fits-slot}
-use Rattle.two_copy.proofs.Calls.{block-fits, store-long, store-full, store-done}
+use Rattle.two_copy.proofs.Calls.{block-fits, store-full, store-done}
 use lib.ListN.{length}
 use Rattle.std.specs.declared.option.Option.the-variants.{Some}
 use Rattle.two_copy.specs.Places.{copies, slot}
 use Rattle.two_copy.proofs.Settled.{slot-put-settled}
 use Rattle.two_copy.proofs.two_copy.calls.TwoCopyDisk.store.Needs as need
-
-pub returns-in-rest : need.returns-in-rest
-returns-in-rest c = (
-  (λ m h.
-      let s = c .args .self .now in
-      store-long (vec-items (s .places)) (s .charge) m h (key-of (c .args .key .now)) (c .args .bytes .now) (c .if-self-eq0 .left) (c .in-rest .ensures tt)),
-  λ k. refl,
-)
 
 pub returns-in-rest-room : need.returns-in-rest-room
 returns-in-rest-room c = (
