@@ -1,3 +1,3 @@
-pub mod Piles
+pub mod Stacks
 pub mod Words
 pub mod Decimals

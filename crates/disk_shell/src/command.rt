@@ -1,4 +1,4 @@
-use crate::pile::Layers;
+use crate::stack::Layers;
 use crate::words::Words;
 use crate::words::methods::decimal;
 use disk::Call;
@@ -46,7 +46,7 @@ fn key(words: &mut Words) -> Option<Key> {
     None
 }
 
-fn expect_sheet(words: &mut Words) -> Option<()> {
+fn expect_base(words: &mut Words) -> Option<()> {
     if words.next()? == b"sheet" {
         Some(())
     } else {
@@ -54,10 +54,10 @@ fn expect_sheet(words: &mut Words) -> Option<()> {
     }
 }
 
-// The layers above the sheet, of which the first word is read already.
+// The layers of a stack, down to its base, of which the first word is read already.
 fn layers(top: &[u8], words: &mut Words) -> Option<Layers> {
     if top == b"sheet" {
-        return Some(Layers::Sheet);
+        return Some(Layers::Bare);
     }
     if top == b"quota" {
         let number = number8(words)?;
@@ -66,20 +66,20 @@ fn layers(top: &[u8], words: &mut Words) -> Option<Layers> {
             return Some(Layers::Quota(number));
         }
         if next == b"shelf" {
-            expect_sheet(words)?;
-            return Some(Layers::QuotaShelf(number));
+            expect_base(words)?;
+            return Some(Layers::QuotaOverCache(number));
         }
         return None;
     }
     if top == b"shelf" {
         let next = words.next()?;
         if next == b"sheet" {
-            return Some(Layers::Shelf);
+            return Some(Layers::Cache);
         }
         if next == b"quota" {
             let number = number8(words)?;
-            expect_sheet(words)?;
-            return Some(Layers::ShelfQuota(number));
+            expect_base(words)?;
+            return Some(Layers::CacheOverQuota(number));
         }
     }
     None

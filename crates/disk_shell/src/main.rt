@@ -1,7 +1,7 @@
-//! A shell to try disks in: a line starts a pile of layers, the lines after it are calls of it, each answered with one line.
+//! A shell to try disks in: a line starts a stack of layers, the lines after it are calls of it, each answered with one line.
 
 mod command;
-mod pile;
+mod stack;
 mod words;
 
 use command::Command;
@@ -10,7 +10,7 @@ use disk::Call;
 use disk::Refusal;
 use disk::Reply;
 use names::limits::BLOCK_MAX;
-use pile::Pile;
+use stack::Stack;
 use std::io;
 use std::str::from_utf8;
 use words::Words;
@@ -56,46 +56,46 @@ fn print(rt: &LibcRuntime, reply: Reply, buffer: &[u8; BLOCK_MAX]) -> io::Result
     }
 }
 
-fn on_pile(rt: &LibcRuntime, pile: &mut Pile, command: Command, text: &[u8]) -> io::Result<()> {
+fn on_stack(rt: &LibcRuntime, stack: &mut Stack, command: Command, text: &[u8]) -> io::Result<()> {
     match command {
         Command::Start(_, _, _) => Ok(()),
         Command::Call(call) => {
             let mut buffer = [0; BLOCK_MAX];
-            let reply = pile.call(&call, text, &mut buffer);
+            let reply = stack.call(&call, text, &mut buffer);
             print(rt, reply, &buffer)
         }
         Command::Restart(charge, pick) => {
-            pile.restart(charge, pick);
+            stack.restart(charge, pick);
             println!(rt, "ok")
         }
     }
 }
 
-fn answer(rt: &LibcRuntime, pile: Option<Pile>, line: &[u8]) -> io::Result<Option<Pile>> {
+fn answer(rt: &LibcRuntime, stack: Option<Stack>, line: &[u8]) -> io::Result<Option<Stack>> {
     let mut words = Words::new(line);
     let Some(command) = parse(&mut words) else {
         println!(rt, "garbled")?;
-        return Ok(pile);
+        return Ok(stack);
     };
     if let Command::Start(layers, bytes, charge) = command {
-        let mut fresh = Pile::new(rt.alloc(), layers, bytes as usize, charge)?;
-        on_pile(rt, &mut fresh, Command::Call(Call::Count), b"")?;
+        let mut fresh = Stack::new(rt.alloc(), layers, bytes as usize, charge)?;
+        on_stack(rt, &mut fresh, Command::Call(Call::Count), b"")?;
         return Ok(Some(fresh));
     }
-    let Some(mut pile) = pile else {
+    let Some(mut stack) = stack else {
         println!(rt, "no disk")?;
         return Ok(None);
     };
     let text = words.text().unwrap_or(b"");
-    on_pile(rt, &mut pile, command, text)?;
-    Ok(Some(pile))
+    on_stack(rt, &mut stack, command, text)?;
+    Ok(Some(stack))
 }
 
 fn main(rt: LibcRuntime) -> io::Result<()> {
-    let mut pile = None;
+    let mut stack = None;
     for line in rt.lines(rt.alloc()) {
         let line = line?;
-        pile = answer(&rt, pile, line.as_bytes())?;
+        stack = answer(&rt, stack, line.as_bytes())?;
     }
     Ok(())
 }
