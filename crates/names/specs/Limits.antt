@@ -13,6 +13,10 @@ page-max = 1020
 abbrev pub block-max : ℕ
 block-max = 1024
 
+-- the keys that a disk takes at most
+abbrev pub keys-max : ℕ
+keys-max = 64
+
 -- the entries of one run
 abbrev pub entries-max : ℕ
 entries-max = 28

@@ -6,6 +6,8 @@ pub const NAME_MAX: usize = 24;
 pub const PAGE_MAX: usize = 1020;
 /// The bytes that one key of a disk shows: a page behind its stamp.
 pub const BLOCK_MAX: usize = 1024;
+/// The keys that a disk takes at most.
+pub const KEYS_MAX: usize = 64;
 /// The entries of one run.
 pub const ENTRIES_MAX: usize = 28;
 /// The targets that are open at once.

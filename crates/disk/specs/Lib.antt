@@ -1,0 +1,9 @@
+pub mod Keys
+pub mod DiskState
+pub mod Lawful
+pub mod Calls
+pub mod Restart
+pub mod Blocks
+pub mod Perform
+pub mod Steady
+pub mod Alike
