@@ -4,3 +4,4 @@ pub mod Runs
 pub mod Cuts
 pub mod Stems
 pub mod Scripts
+pub mod Lengths

@@ -7,3 +7,4 @@ pub mod Pages
 pub mod Made
 pub mod View
 pub mod Searched
+pub mod Laws

@@ -1,5 +1,6 @@
 mod candidates;
 mod entry;
+pub mod laws;
 mod lines;
 mod page;
 mod run;
