@@ -1,8 +1,8 @@
 -- Names are equal, and ordered, by their bytes.
 use Rattle.std.specs.Prelude.{◌≡◌, Bool}
 use Rattle.std.specs.declared.cmp.Ordering.{Ordering}
-use Rattle.std.specs.Cmp.{IsTotalOrder, nat_cmp_total}
-use Rattle.std.specs.Cmp.Lexicographic.{lexical, slice_cmp}
+use Rattle.std.specs.Cmp.{IsTotalOrder}
+use Rattle.std.specs.Cmp.Lexicographic.{slice_cmp, on_texts}
 use Rattle.std.specs.Str.{bytes_eq}
 use Rattle.names.specs.Names.{Bytes}
 use Rattle.names.specs.Spelled.{spelled}
@@ -20,11 +20,5 @@ abbrev pub name_order : Name → Name → Ordering
 name_order a b = byte_order (spelled a) (spelled b)
 
 -- the order is total, so that names are keys of a map
-abbrev pub names_ordered : IsTotalOrder (λ (a b : Name) (r : Ordering). r ≡ name_order a b)
-names_ordered = record {
-  cmp = name_order;
-  says = λ a b r h. h;
-  flip = λ a b. (lexical nat_cmp_total).antisymm (spelled a) (spelled b);
-  trans = λ a b c. (lexical nat_cmp_total).trans (spelled a) (spelled b) (spelled c);
-  alike = λ a b c. (lexical nat_cmp_total).congr (spelled a) (spelled b) (spelled c);
-}
+abbrev pub names_ordered : IsTotalOrder name_order
+names_ordered = on_texts spelled

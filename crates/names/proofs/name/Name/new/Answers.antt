@@ -4,20 +4,20 @@ use Rattle.names.specs.Names.{is_name}
 use Rattle.names.proofs.Scan.{lawful-short}
 use Rattle.names.proofs.name.Name.new.Goals as goal
 
-pub slice-bounds-front-end : goal.slice-bounds-front-end
-slice-bounds-front-end c =
-    let k : length c.args.bytes.now ≤ 24 = lawful-short _ (sym c.if-not-is-name.ensures) in search rules
+pub slice_bounds-front-end : goal.slice_bounds-front-end
+slice_bounds-front-end c =
+    let k : length c.args.bytes.now ≤ 24 = lawful-short _ (sym c.if-not-is_name.ensures) in search rules
 
-pub overflow-cast-result : goal.overflow-cast-result
-overflow-cast-result c =
-    let k : length c.args.bytes.now ≤ 24 = lawful-short _ (sym c.if-not-is-name.ensures) in search rules
+pub overflow_cast-result : goal.overflow_cast-result
+overflow_cast-result c =
+    let k : length c.args.bytes.now ≤ 24 = lawful-short _ (sym c.if-not-is_name.ensures) in search rules
 
-pub invariant-of-result : goal.invariant-of-result
-invariant-of-result c =
-    let l = sym c.if-not-is-name.ensures in (
-      lawful-short c.args.bytes.now l,
-      (ap is_name (take_at c.copy-from-slice.new.self _ _ (ap length c.copy-from-slice.ensures.after) ∙ c.copy-from-slice.ensures.after) ∙ l, tt),
-    )
+pub invariant_of-result : goal.invariant_of-result
+invariant_of-result c =
+    let l = sym c.if-not-is_name.ensures in record {
+      short = lawful-short c.args.bytes.now l;
+      lawful = ap is_name (take_at c.copy_from_slice.new.self _ _ (ap length c.copy_from_slice.ensures.after) ∙ c.copy_from_slice.ensures.after) ∙ l;
+    }
 
 pub returns : goal.returns
-returns c = take_at c.copy-from-slice.new.self _ _ (ap length c.copy-from-slice.ensures.after) ∙ c.copy-from-slice.ensures.after
+returns c = take_at c.copy_from_slice.new.self _ _ (ap length c.copy_from_slice.ensures.after) ∙ c.copy_from_slice.ensures.after
