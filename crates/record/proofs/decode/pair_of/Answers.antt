@@ -13,10 +13,10 @@ returns c =
     let g = two_at bs (at + 2) (omega arith) in
     let n = (let z : at + 2 + 1 ≡ at + 3 = omega arith in z) in
     record {
-      value = λ i. (c.u16-at.ensures.value i, c.u16-at-2.ensures.value i);
-      small = (c.u16-at.type-inv, c.u16-at-2.type-inv);
+      value = λ i. (c.u16_at.ensures.value i, c.u16_at-2.ensures.value i);
+      small = (c.u16_at.type_inv, c.u16_at-2.type_inv);
       bytes =
-          (λ i. c.u16-at.ensures.bytes i ++ c.u16-at-2.ensures.bytes i) ∙ (λ i. take 2 (f i) ++ take 2 (g i))
+          (λ i. c.u16_at.ensures.bytes i ++ c.u16_at-2.ensures.bytes i) ∙ (λ i. take 2 (f i) ++ take 2 (g i))
           ∙ ap (λ k. get_or bs at 0 ∷ get_or bs (at + 1) 0 ∷ get_or bs (at + 2) 0 ∷ get_or bs k 0 ∷ []) n
           ∙ sym (ap (take 4) e);
     }

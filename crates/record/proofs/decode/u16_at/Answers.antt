@@ -11,4 +11,4 @@ returns c =
     let e = two_at bs at c.requires in
     let a : get_or bs at 0 < 256 = search rules in
     let b : get_or bs (at + 1) 0 < 256 = search rules in
-    record { value = c.from-le-bytes.ensures ∙ sym (ap number_of_two e); bytes = ap two c.from-le-bytes.ensures ∙ two_of _ _ a b ∙ sym (ap (take 2) e) }
+    record { value = c.from_le_bytes.ensures ∙ sym (ap number_of_two e); bytes = ap two c.from_le_bytes.ensures ∙ two_of _ _ a b ∙ sym (ap (take 2) e) }

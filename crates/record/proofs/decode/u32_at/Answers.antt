@@ -13,4 +13,4 @@ returns c =
     let q : get_or bs (at + 1) 0 < 256 = search rules in
     let r : get_or bs (at + 2) 0 < 256 = search rules in
     let s : get_or bs (at + 3) 0 < 256 = search rules in
-    record { value = c.from-le-bytes.ensures ∙ sym (ap number_of_four e); bytes = ap four c.from-le-bytes.ensures ∙ four_of _ _ _ _ p q r s ∙ sym (ap (take 4) e) }
+    record { value = c.from_le_bytes.ensures ∙ sym (ap number_of_four e); bytes = ap four c.from_le_bytes.ensures ∙ four_of _ _ _ _ p q r s ∙ sym (ap (take 4) e) }

@@ -7,11 +7,11 @@ use Rattle.record.specs.Formed.{pair_at, pair_bytes, body_stands, bodies_stand}
 use Rattle.record.proofs.Formed.{length-pairs_from, next_body, after-body, next_pair, ill_bodies, formed_if}
 use Rattle.record.proofs.form.is_formed.Goals as goal
 
-pub returns-in-default : goal.returns-in-default
-returns-in-default c =
+pub returns-in_default : goal.returns-in_default
+returns-in_default c =
     let bs = c.args.bytes.now in
     let n = next_body bs (count_in bs) c.loop-i.at c.loop-i.i c.loop-i-test.true in
-    let f = c.in-default.ensures.cases in
+    let f = c.in_default.ensures.cases in
     record {
       value = sym (ill_bodies bs (sym c.loop-i.invariant.0 ∙ n ∙ and_left (body_stands c.loop-i.at (pair_at bs c.loop-i.i) bs) _ f));
       pairs = λ h. absurd (false≢true h);

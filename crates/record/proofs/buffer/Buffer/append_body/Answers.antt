@@ -10,7 +10,7 @@ use Rattle.record.proofs.buffer.Buffer.append_body.Goals as goal
 
 pub append-requires-2 : goal.append-requires-2
 append-requires-2 c =
-    let k = lawful-short _ c.as-bytes.ensures.lawful in
+    let k = lawful-short _ c.as_bytes.ensures.lawful in
     let h = ap length c.head.ensures.bytes in
     omega (arith, c.append.ensures.len)
 
@@ -19,8 +19,8 @@ returns c =
     let e = c.args.entry.now in
     let s = c.args.self.now in
     let h = c.head.ensures.bytes in
-    let n = c.as-bytes.ensures.value in
-    let k = lawful-short _ c.as-bytes.ensures.lawful in
+    let n = c.as_bytes.ensures.value in
+    let k = lawful-short _ c.as_bytes.ensures.lawful in
     let hl = ap length h in
     let nl = ap length n in
     let b = length-body (value_of e) in
@@ -31,7 +31,7 @@ returns c =
       len = omega (arith, c.append.ensures.len, c.append-2.ensures.len);
       room = omega (arith, c.append.ensures.len, c.append-2.ensures.len);
       fitting = record {
-        lawful = ap is_name (sym n) ∙ c.as-bytes.ensures.lawful;
+        lawful = ap is_name (sym n) ∙ c.as_bytes.ensures.lawful;
         line_fits = c.head.ensures.line;
         stamp_fits = c.head.ensures.stamp;
       };

@@ -2,8 +2,8 @@ use Rattle.std.proofs.Common.{refl, arith, rules}
 use Rattle.record.proofs.entries.EntriesIterator.next.Goals as goal
 use Rattle.std.proofs.iter.Next.{firm}
 
-pub overflow-add-self : goal.overflow-add-self
-overflow-add-self c = let b = c.in-Some.ensures.bound in omega (arith, b.0, b.1)
+pub overflow_add-self : goal.overflow_add-self
+overflow_add-self c = let b = c.in-Some.ensures.bound in omega (arith, b.0, b.1)
 
 pub returns : goal.returns
 returns c =

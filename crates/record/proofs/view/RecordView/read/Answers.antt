@@ -6,22 +6,22 @@ use Rattle.record.proofs.Formed.{malformed, formed-is_record, formed_long}
 use Rattle.record.proofs.Handed.{count_is, read_when, read-unless}
 use Rattle.record.proofs.view.RecordView.read.Goals as goal
 
-pub returns-then-not-is-formed : goal.returns-then-not-is-formed
-returns-then-not-is-formed c =
-    let bs = c.args.bytes.now in record { law = exact; cases = read-unless bs (malformed bs (sym c.if-not-is-formed.ensures.value)) }
+pub returns-then-not-is_formed : goal.returns-then-not-is_formed
+returns-then-not-is_formed c =
+    let bs = c.args.bytes.now in record { law = exact; cases = read-unless bs (malformed bs (sym c.if-not-is_formed.ensures.value)) }
 
-pub u32-at-stamp-requires : goal.u32-at-stamp-requires
-u32-at-stamp-requires c = let l = formed_long c.args.bytes.now (sym c.if-not-is-formed.ensures.value) in omega arith
+pub u32_at-stamp-requires : goal.u32_at-stamp-requires
+u32_at-stamp-requires c = let l = formed_long c.args.bytes.now (sym c.if-not-is_formed.ensures.value) in omega arith
 
 pub bounds-bytes-4 : goal.bounds-bytes-4
-bounds-bytes-4 c = let l = formed_long c.args.bytes.now (sym c.if-not-is-formed.ensures.value) in omega arith
+bounds-bytes-4 c = let l = formed_long c.args.bytes.now (sym c.if-not-is_formed.ensures.value) in omega arith
 
 pub returns : goal.returns
 returns c =
     let bs = c.args.bytes.now in
-    let f = c.if-not-is-formed.ensures in
-    let v = c.u32-at-stamp.ensures.value in
-    let r : is_record bs ≡ true = formed-is_record bs (sym f.value) (ap four (sym v) ∙ c.u32-at-stamp.ensures.bytes) (f.pairs refl) in
+    let f = c.if-not-is_formed.ensures in
+    let v = c.u32_at-stamp.ensures.value in
+    let r : is_record bs ≡ true = formed-is_record bs (sym f.value) (ap four (sym v) ∙ c.u32_at-stamp.ensures.bytes) (f.pairs refl) in
     let w = record_is_written bs r in
     record {
       law = exact;

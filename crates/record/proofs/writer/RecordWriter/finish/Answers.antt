@@ -18,8 +18,8 @@ returns-then-self-eq0 c =
     let s = c.args.self.now in
     record { law = (reads_back, short, reached); cases = ap (λ n. map entry_from (parts (take n s.pairs) (filled s.bodies))) c.if-self-eq0.true }
 
-pub overflow-add-base-in-loop-i : goal.overflow-add-base-in-loop-i
-overflow-add-base-in-loop-i c =
+pub overflow_add-base-in-loop-i : goal.overflow_add-base-in-loop-i
+overflow_add-base-in-loop-i c =
     let s = c.args.self.now in
     let l = length-take-le s.count s.pairs (omega (arith, s.sized, s.few)) in
     let k = chained_at 0 (take s.count s.pairs) s.bodies.len c.loop-i.i s.ordered (omega (arith, c.loop-i-test.true)) in
@@ -32,10 +32,10 @@ loop-i-preserved c =
     let i = c.loop-i.i in
     let f = pair (front_size s.count) in
     let front = four c.args.stamp ++ (s.count ∷ []) in (
-      c.append-pair.ensures.bytes ∙ ap (λ x. x ++ f (get_or s.pairs i (0, 0))) c.loop-i.invariant.0
+      c.append_pair.ensures.bytes ∙ ap (λ x. x ++ f (get_or s.pairs i (0, 0))) c.loop-i.invariant.0
           ∙ flat_map_more f front (take i s.pairs) (get_or s.pairs i (0, 0))
           ∙ ap (λ x. front ++ JoinedBy f x) (sym (take_more s.pairs i (0, 0) (omega (arith, s.sized, s.few, c.loop-i-test.true)))),
-      omega (arith, c.append-pair.ensures.len, c.loop-i.invariant.1),
+      omega (arith, c.append_pair.ensures.len, c.loop-i.invariant.1),
     )
 
 -- what stands in the end
@@ -52,7 +52,7 @@ whole c =
     let n = length-map ps _ ∙ l in
     let k : length (bodies_of s) ≡ s.count = n in (
       c.append-3.ensures.bytes
-          ∙ (λ i. (c.loop-i.invariant.0 ∙ ap (λ m. front ++ (s.count ∷ JoinedBy (pair (front_size s.count)) (take m s.pairs))) e ∙ ap (λ m. front ++ (m ∷ JoinedBy (pair (front_size m)) ps)) (sym l)) i ++ c.as-bytes.ensures i)
+          ∙ (λ i. (c.loop-i.invariant.0 ∙ ap (λ m. front ++ (s.count ∷ JoinedBy (pair (front_size s.count)) (take m s.pairs))) e ∙ ap (λ m. front ++ (m ∷ JoinedBy (pair (front_size m)) ps)) (sym l)) i ++ c.as_bytes.ensures i)
           ∙ finished c.args.stamp ps (filled s.bodies) o s.lawful,
       writable c.args.stamp (bodies_of s) s.lawful c.ranges.stamp.fits (omega (arith, c.if-self-eq0.false)) (omega (arith, s.few)),
     )

@@ -17,4 +17,4 @@ unfolding entries_of
 returns c =
     let s = c.args.self.now in
     let l = count_entries s.pairs s.count (filled s.bodies) (omega (arith, s.sized, s.few)) in
-    ap not c.has-room.ensures ∙ not_below s.count 28 ∙ ap (leb 28) (sym l)
+    ap not c.has_room.ensures ∙ not_below s.count 28 ∙ ap (leb 28) (sym l)

@@ -3,8 +3,8 @@ use Rattle.std.proofs.lemmas.Bool.{eq-eqb}
 use Rattle.record.specs.Held.{entries_of}
 use Rattle.record.proofs.writer.RecordWriter.new.Goals as goal
 
-pub invariant-of-result : goal.invariant-of-result
-invariant-of-result c = (refl, (omega arith, (omega (arith, c.new.ensures.len), (eq-eqb 0 _ (sym c.new.ensures.len), (refl, tt)))))
+pub invariant_of-result : goal.invariant_of-result
+invariant_of-result c = (refl, (omega arith, (omega (arith, c.new.ensures.len), (eq-eqb 0 _ (sym c.new.ensures.len), (refl, tt)))))
 
 pub returns : goal.returns
 unfolding entries_of
