@@ -7,5 +7,5 @@ use Rattle.script.proofs.candidates.fallback_script.Goals as goal
 pub returns : goal.returns
 returns c =
     let t = c.args.target.now in
-    ap (listed t) c.with-stem.ensures
+    ap (listed t) c.with_stem.ensures
     ∙ (stem-listed t (codes "default.do") t (length t) (take_all (length t) t (omega arith)) c.new.result c.new.ensures ∙ any_listed t)

@@ -7,4 +7,4 @@ use Rattle.script.proofs.candidates.own_script.Goals as goal
 pub returns : goal.returns
 returns c =
     let t = c.args.target.now in
-    ap (listed t) c.with-stem.ensures ∙ stem-listed t _ t (length t) (take_all (length t) t (omega arith)) c.join.result c.join.ensures
+    ap (listed t) c.with_stem.ensures ∙ stem-listed t _ t (length t) (take_all (length t) t (omega arith)) c.join.result c.join.ensures

@@ -16,6 +16,6 @@ returns c =
 pub returns-in-Some : goal.returns-in-Some
 returns-in-Some c =
     record {
-      tells = stepped_some c.read-line.result c.in-Some.step (view c.read-line.new.self) _ _ c.in-Some.is c.loop-self.invariant.0 c.read-line.ensures.tells;
-      falls = λ _. omega (arith, c.read-line.ensures.falls, c.loop-self.invariant.1);
+      tells = stepped_some c.read_line.result c.in-Some.step (view c.read_line.new.self) _ _ c.in-Some.is c.loop-self.invariant.0 c.read_line.ensures.tells;
+      falls = λ _. omega (arith, c.read_line.ensures.falls, c.loop-self.invariant.1);
     }
