@@ -1,8 +1,8 @@
 -- A map in memory as laid files.
-use Rattle.std.proofs.Common.{◌≡◌, Bool, true, false, cond, List, [], ◌∷◌, length, take, is_some, Some, None, Option, sym, refl, ap, ◌∙◌, subst, true≢false, arith}
+use Rattle.std.proofs.Common.{◌≡◌, Bool, true, false, cond, List, [], ◌∷◌, length, is_some, Some, None, Option, sym, refl, ap, ◌∙◌, subst, true≢false, arith}
 use Rattle.std.specs.BTreeMap as tree
 use Rattle.std.specs.Map.{lookup, keys_of, values_of}
-use Rattle.std.specs.Ordering.{eq_by_cmp, is_eq}
+use Rattle.std.specs.Ordering.{eq_by_cmp}
 use Rattle.std.specs.Cmp.Lexicographic.{texts_ties, nat_list_eq_equiv}
 use Rattle.std.specs.Option.{option_map}
 use Rattle.std.specs.Str.{bytes_eq}
@@ -16,8 +16,7 @@ use Rattle.names.specs.declared.name.Name.{Name}
 use Rattle.names.proofs.Scan.{lawful-short}
 use Rattle.script.specs.Pages.{content}
 use Rattle.script.specs.declared.page.Page.{Page}
-use Rattle.clean.specs.Files.{Files, held, with_file, laid}
-use Rattle.clean.specs.declared.files.Files as memory
+use Rattle.clean.specs.Files.{Files, held, with_file}
 
 tied_same : (a b : Name) → eq_by_cmp name_order a b ≡ bytes_eq (spelled a) (spelled b)
 tied_same a b = sym (texts_ties (spelled a) (spelled b))

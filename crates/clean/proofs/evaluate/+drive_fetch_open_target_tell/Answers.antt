@@ -1,4 +1,4 @@
-use Rattle.std.proofs.Common.{◌≡◌, ℕ, ◌+◌, ◌<◌, ◌≤◌, false, List, [], ◌∷◌, ◌++◌, length, take, sym, refl, ap, ◌∙◌, subst, true≢false, arith, rules}
+use Rattle.std.proofs.Common.{◌≡◌, ℕ, ◌+◌, false, [], ◌∷◌, ◌++◌, length, take, sym, ap, ◌∙◌, true≢false, arith}
 use Rattle.std.proofs.lemmas.List.{take_all, length_push}
 use Rattle.names.specs.Limits.{depth_max}
 use Rattle.names.specs.Names.{Bytes}
@@ -7,8 +7,7 @@ use Rattle.faults.specs.Trails.{steps}
 use Rattle.script.specs.Made.{entries}
 use Rattle.script.specs.Pages.{content}
 use Rattle.script.specs.Searched.{candidate}
-use Rattle.script.specs.View.{view, tree_of}
-use Rattle.clean.specs.Answered.{finished}
+use Rattle.script.specs.View.{view}
 use Rattle.clean.specs.Chains.{opened}
 use Rattle.clean.specs.Evaluate.{failed, as_answer}
 use Rattle.clean.specs.Opening.{begins}

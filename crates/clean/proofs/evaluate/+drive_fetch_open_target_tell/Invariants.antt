@@ -1,4 +1,4 @@
-use Rattle.std.proofs.Common.{◌≡◌, ◌+◌, ◌-◌, ◌*◌, ◌≤◌, length}
+use Rattle.std.proofs.Common.{◌≡◌, ◌+◌, ◌-◌, ◌*◌, length}
 use Rattle.names.specs.Limits.{depth_max}
 use Rattle.names.specs.Spelled.{spelled}
 use Rattle.script.specs.View.{view, tree_of}

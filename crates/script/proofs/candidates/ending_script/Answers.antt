@@ -1,4 +1,4 @@
-use Rattle.std.proofs.Common.{length, sym, ap, ◌∙◌, rules}
+use Rattle.std.proofs.Common.{length, sym, ap, ◌∙◌}
 use Rattle.script.specs.Candidates.{ending_by}
 use Rattle.script.specs.Searched.{listed}
 use Rattle.script.proofs.Stems.{stem-listed}

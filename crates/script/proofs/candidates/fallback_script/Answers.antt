@@ -1,4 +1,4 @@
-use Rattle.std.proofs.Common.{length, codes, ap, ◌∙◌, arith, rules}
+use Rattle.std.proofs.Common.{length, codes, ap, ◌∙◌, arith}
 use Rattle.std.proofs.lemmas.List.{take_all}
 use Rattle.script.specs.Searched.{listed}
 use Rattle.script.proofs.Stems.{stem-listed, any_listed}

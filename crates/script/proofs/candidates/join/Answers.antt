@@ -1,4 +1,4 @@
-use Rattle.std.proofs.Common.{◌≡◌, ℕ, ◌+◌, ◌-◌, ◌<◌, false, ◌++◌, length, take, sym, ap, ◌∙◌, subst, append_assoc, arith, length-append, rules, MatchOption}
+use Rattle.std.proofs.Common.{◌≡◌, ℕ, ◌+◌, ◌-◌, ◌<◌, false, ◌++◌, length, take, ap, ◌∙◌, subst, append_assoc, arith, length-append, rules, MatchOption}
 use native.Mathlib.Nat.{sub-zero}
 use Rattle.names.specs.Names.{Bytes, is_name}
 use Rattle.names.specs.Spelled.{spelled}

@@ -1,4 +1,4 @@
-use Rattle.std.proofs.Common.{◌+◌, ◌++◌, length, take, sym, refl, ap, ◌∙◌, arith, rules}
+use Rattle.std.proofs.Common.{◌+◌, ◌++◌, length, take, sym, refl, ap, ◌∙◌, arith}
 use Rattle.names.specs.Names.{Bytes}
 use Rattle.std.proofs.lemmas.Slice.{take-put_mid}
 use Rattle.script.proofs.lines.put.Goals as goal

@@ -1,4 +1,4 @@
-use Rattle.std.proofs.Common.{◌≡◌, Some, ap}
+use Rattle.std.proofs.Common.{Some, ap}
 use Rattle.std.specs.Map.{keys_of, values_of}
 use Rattle.clean.specs.Files.{held, laid}
 use Rattle.clean.proofs.Held.{held-put}

@@ -1,4 +1,4 @@
-use Rattle.std.proofs.Common.{◌≡◌, ap}
+use Rattle.std.proofs.Common.{ap}
 use Rattle.std.specs.Map.{keys_of, values_of}
 use Rattle.clean.specs.Files.{held, laid}
 use Rattle.clean.proofs.files.Files.new.Goals as goal

@@ -1,4 +1,4 @@
-use Rattle.std.proofs.Common.{◌≡◌, is_some, None, sym, ap, ◌∙◌}
+use Rattle.std.proofs.Common.{is_some, None, sym, ap, ◌∙◌}
 use Rattle.std.specs.BTreeMap as tree
 use Rattle.names.specs.Order.{name_order}
 use Rattle.clean.specs.Files.{laid}

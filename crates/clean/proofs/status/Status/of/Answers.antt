@@ -1,8 +1,7 @@
-use Rattle.std.proofs.Common.{◌≡◌, Bool, false, cond, Option, sym, ap, ◌∙◌, rules}
+use Rattle.std.proofs.Common.{Bool, cond, ap, ◌∙◌}
 use Rattle.names.specs.Spelled.{spelled}
-use Rattle.names.specs.Names.{Bytes}
 use Rattle.clean.specs.Files.{laid}
-use Rattle.clean.specs.Status.{Status, target, plain, status}
+use Rattle.clean.specs.Status.{target, plain, status}
 use Rattle.clean.proofs.status.Status.of.Goals as goal
 
 pub returns-then-has_script : goal.returns-then-has_script

@@ -1,4 +1,4 @@
-use Rattle.std.proofs.Common.{codes, sym, refl, ap, ◌∙◌, rules}
+use Rattle.std.proofs.Common.{codes, sym, refl, ap, ◌∙◌}
 use Rattle.names.specs.Spelled.{spelled}
 use Rattle.script.specs.Candidates.{ends_in}
 use Rattle.script.proofs.Stems.{ends_told, no_target, all_candidates}

@@ -1,4 +1,4 @@
-use Rattle.std.proofs.Common.{sym, ap, ◌∙◌, rules}
+use Rattle.std.proofs.Common.{rules}
 use Rattle.names.specs.Limits.{entries_max}
 use Rattle.names.proofs.Capped.{capped-push}
 use Rattle.script.specs.Made.{seen}

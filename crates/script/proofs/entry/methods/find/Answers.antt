@@ -1,4 +1,4 @@
-use Rattle.std.proofs.Common.{map, Some, sym, ap, ◌∙◌, rules}
+use Rattle.std.proofs.Common.{map, Some, sym, ap, ◌∙◌}
 use Rattle.std.proofs.lemmas.List.{at_drop_all}
 use Rattle.names.specs.Names.{Bytes}
 use Rattle.names.specs.Spelled.{spelled}

@@ -1,4 +1,4 @@
-use Rattle.std.proofs.Common.{◌+◌, ◌<◌, length, sym, refl, ap, ◌∙◌, arith, rules}
+use Rattle.std.proofs.Common.{◌+◌, length, sym, refl, ap, ◌∙◌, arith}
 use Rattle.script.specs.Lines.{filled}
 use Rattle.script.specs.View.{view, tree_of}
 use Rattle.script.proofs.Runs.{skipped, ran, went_as}

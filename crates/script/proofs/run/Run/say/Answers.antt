@@ -1,4 +1,4 @@
-use Rattle.std.proofs.Common.{sym, refl, ap, ◌∙◌, rules}
+use Rattle.std.proofs.Common.{refl, ap, rules}
 use Rattle.script.specs.Lines.{filled}
 use Rattle.script.specs.View.{view, after_doing}
 use Rattle.script.specs.Pages.{content}
