@@ -3,7 +3,6 @@ use Rattle.std.proofs.Common.{◌≡◌, ℕ, ◌+◌, ◌^◌, ◌<◌, ◌≤�
 use Rattle.std.proofs.lemmas.List.{drop_all, drop-drop, drop_more, take-append-drop, append_assoc}
 use Rattle.std.proofs.lemmas.Bool.{and_parts, and_from, and_left}
 use Rattle.std.proofs.lemmas.Slice.Eq.{bytes_eq-Decides}
-use Rattle.std.specs.Str.{bytes_eq}
 use Rattle.names.specs.Names.{Bytes, is_name}
 use Rattle.record.specs.Entries.{EntryValue, Fitting, stamp_of}
 use Rattle.record.specs.Written.{two, four, body, kind_byte}

@@ -1,7 +1,6 @@
 -- A record is well formed, and bytes that are well formed are a record.
 use Rattle.std.proofs.Common.{◌≡◌, ℕ, zero, suc, ◌+◌, ◌-◌, ◌*◌, ◌<◌, ◌≤◌, Bool, true, false, ◌&&◌, eqb, leb, List, [], ◌∷◌, ◌++◌, map, length, get_or, take, drop, sym, refl, ap, ◌∙◌, subst, arith, take-add}
-use Rattle.std.specs.List.{flat_map as JoinedBy, AllByRecursion as All}
-use Rattle.std.specs.Str.{bytes_eq}
+use Rattle.std.specs.List.{flat_map as JoinedBy, AllByRecursion}
 use Rattle.std.proofs.lemmas.List.{append_assoc, length-append, length-map, take_at, drop_at, take-append-drop, drop-drop, drop_more, take_more, flat_map_more, at_drop_more}
 use Rattle.std.proofs.lemmas.Bool.{both_ways, and_parts, and_from, and_left, and_right, eq-eqb, ne_eqb, le-leb, lt-leb, leb-true}
 use Rattle.std.proofs.lemmas.Slice.Eq.{bytes_eq-Decides}
@@ -85,7 +84,7 @@ formed-is_record bs h f j =
     and_from _ _ (and_from _ _ (ap (leb 1) l ∙ v.0) (ap (λ x. leb x 28) l ∙ v.1)) (and_from _ _ (bodies_named (parts ps bs) c.1) ((bytes_eq-Decides _ _).1 e))
 
 -- bodies that are written stand
-written_stand : (at : ℕ) (front : Bytes) (es : List EntryValue) → All Fitting es → length front ≡ at → bodies_stand at (spans at (map body es)) (front ++ joined (map body es)) ≡ true
+written_stand : (at : ℕ) (front : Bytes) (es : List EntryValue) → AllByRecursion Fitting es → length front ≡ at → bodies_stand at (spans at (map body es)) (front ++ joined (map body es)) ≡ true
 unfolding body_stands
 written_stand at front [] f h = eq-eqb at _ (sym (length-append front [] ∙ (let e : length front + 0 ≡ at = omega arith in e)))
 written_stand at front (e ∷ es) f h =

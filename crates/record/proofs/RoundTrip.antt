@@ -1,6 +1,6 @@
 -- What is written reads back, and only that is read.
 use Rattle.std.proofs.Common.{◌≡◌, ℕ, zero, suc, ◌+◌, ◌*◌, ◌^◌, ◌<◌, ◌≤◌, Bool, true, false, cond, ◌&&◌, leb, List, [], ◌∷◌, ◌++◌, map, length, replicate, Some, None, codes, Option, sym, refl, ap, ◌∙◌, subst, arith}
-use Rattle.std.specs.List.{AllByRecursion as All}
+use Rattle.std.specs.List.{AllByRecursion}
 use Rattle.std.specs.Str.{bytes_eq}
 use Rattle.std.proofs.lemmas.List.{length-append, length-map}
 use Rattle.std.proofs.lemmas.Bool.{le-leb, leb-true, and_parts, and_from}
@@ -16,7 +16,7 @@ use Rattle.record.proofs.Numbers.{four_back, four-fits}
 use Rattle.record.proofs.Spans.{spans, length_pairs, pairs_back, parts_back}
 use Rattle.record.proofs.Bodies.{body_back, line_back, kind_back, length-body}
 
-pub named_from : (es : List EntryValue) → All Fitting es → names_lawful es ≡ true
+pub named_from : (es : List EntryValue) → AllByRecursion Fitting es → names_lawful es ≡ true
 named_from [] f = refl
 named_from (e ∷ es) f = and_from (is_name e.name) _ f.0.lawful (named_from es f.1)
 
@@ -60,7 +60,7 @@ stamp_fits : (s : ℕ) (es : List EntryValue) → number_of_four (written s es) 
 unfolding written
 stamp_fits s es = four-fits s
 
-map_back : (es : List EntryValue) → All Fitting es → map entry_from (map body es) ≡ es
+map_back : (es : List EntryValue) → AllByRecursion Fitting es → map entry_from (map body es) ≡ es
 map_back [] f = refl
 map_back (e ∷ es) f = λ i. body_back e f.0 i ∷ map_back es f.1 i
 
@@ -83,7 +83,7 @@ reads_back s es w =
     ap (λ b. cond b (Some (number_of_four (written s es), entries_in (written s es))) None) t.0 ∙ (λ i. Some (t.1 i, t.2 i))
 
 -- what a record was is what it says, and fits
-pub same-fitting : (es : List EntryValue) → names_lawful es ≡ true → map entry_from (map body es) ≡ es → All Fitting es
+pub same-fitting : (es : List EntryValue) → names_lawful es ≡ true → map entry_from (map body es) ≡ es → AllByRecursion Fitting es
 same-fitting [] n h = tt
 same-fitting (e ∷ es) n h =
     let t = and_parts (is_name e.name) _ n in
@@ -142,7 +142,7 @@ longest_fits : Fitting longest
 unfolding longest is_name
 longest_fits = record { lawful = refl; line_fits = omega arith; stamp_fits = omega arith }
 
-all_same : (n : ℕ) (e : EntryValue) → Fitting e → All Fitting (replicate n e)
+all_same : (n : ℕ) (e : EntryValue) → Fitting e → AllByRecursion Fitting (replicate n e)
 all_same zero e f = tt
 all_same (suc n) e f = (f, all_same n e f)
 

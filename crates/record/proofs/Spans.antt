@@ -1,8 +1,8 @@
 -- Where the bodies of a record lie.
-use Rattle.std.proofs.Common.{◌≡◌, ℕ, ◌+◌, ◌*◌, ◌^◌, ◌<◌, List, [], ◌∷◌, ◌++◌, length, take, drop, sym, refl, ap, ◌∙◌, arith}
+use Rattle.std.proofs.Common.{◌≡◌, ℕ, ◌+◌, ◌*◌, ◌^◌, ◌<◌, List, [], ◌∷◌, ◌++◌, length, take, sym, refl, ap, ◌∙◌, arith}
 use Rattle.std.proofs.lemmas.List.{length-append, append_assoc, take_at, drop_at}
 use Rattle.names.specs.Names.{Bytes}
-use Rattle.record.specs.Written.{two, pairs, joined}
+use Rattle.record.specs.Written.{pairs, joined}
 use Rattle.record.specs.Read.{pairs_from, parts}
 use Rattle.record.proofs.Numbers.{two_back}
 

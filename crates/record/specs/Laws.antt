@@ -1,6 +1,6 @@
 -- What holds of records as bytes.
 use Rattle.std.specs.Prelude.{◌≡◌, ℕ, ◌^◌, ◌<◌, ◌≤◌, List, length, Some}
-use Rattle.std.specs.List.{AllByRecursion as All}
+use Rattle.std.specs.List.{AllByRecursion}
 use Rattle.names.specs.Names.{Bytes}
 use Rattle.names.specs.Limits.{entries_max}
 use Rattle.record.specs.Limits.{record_max}
@@ -13,7 +13,7 @@ pub record Writable (stamp : ℕ) (es : List EntryValue) : Type 0 where
   pub stamp_fits : stamp < 2 ^ 32
   pub some : 1 ≤ length es
   pub few : length es ≤ entries_max
-  pub fitting : All Fitting es
+  pub fitting : AllByRecursion Fitting es
 
 -- what is written reads back as the same stamp and entries
 abbrev pub ReadsBack : Type 0

@@ -1,3 +1,5 @@
+#![tactic(auto)]
+
 mod buffer;
 mod decode;
 mod entries;

@@ -1,6 +1,6 @@
 -- Bytes as text, two hex digits for each.
 use Rattle.std.specs.Prelude.{◌≡◌, ℕ, ◌+◌, ◌-◌, ◌*◌, ◌/◌, ◌%◌, ◌<◌, cond, ◌&&◌, [], ◌∷◌, Some, None, Option, nat_le, nat_lt}
-use Rattle.std.specs.List.{AllByRecursion as All}
+use Rattle.std.specs.List.{AllByRecursion}
 use Rattle.names.specs.Names.{Bytes}
 
 -- 0 to 9, then a to f
@@ -34,4 +34,4 @@ hex_bytes (a ∷ b ∷ cs) = with_byte (byte_value (digit_value a) (digit_value 
 
 -- the text of bytes stands for those bytes
 abbrev pub HexBack : Type 0
-HexBack = (bs : Bytes) → All (λ b. b < 256) bs → hex_bytes (hex_text bs) ≡ Some bs
+HexBack = (bs : Bytes) → AllByRecursion (λ b. b < 256) bs → hex_bytes (hex_text bs) ≡ Some bs

@@ -1,3 +1,5 @@
+#![tactic(auto)]
+
 mod answer;
 pub mod hex;
 mod parse;

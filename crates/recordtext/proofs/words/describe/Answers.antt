@@ -1,4 +1,4 @@
-use Rattle.std.proofs.Common.{◌≡◌, ◌+◌, ◌++◌, take, Some, None, string_bytes, codes, decimal, sym, refl, ap, ◌∙◌, subst}
+use Rattle.std.proofs.Common.{◌≡◌, ◌++◌, take, Some, None, string_bytes, codes, decimal, sym, refl, ap, ◌∙◌, subst}
 use Rattle.std.specs.List.{flat_map}
 use Rattle.std.proofs.lemmas.Slice.{pushed}
 use Rattle.record.specs.Read.{entries_in}
@@ -12,31 +12,31 @@ use Rattle.recordtext.proofs.words.describe.Goals as goal
 pub loop-item-init : goal.loop-item-init
 loop-item-init c =
     let front = codes "stamp " ++ decimal c.stamp-stamp.result in
-    let z = ap (λ x. x.next) c.into-iter-item-iterator.ensures.into-iter-gives ∙ c.entries-item-items.ensures.1 in
-    (refl, λ bs s. none_told front (string_bytes c.in-ok-text.text) c.into-iter-item-iterator.result.next (entries_in bs) c.in-ok-text.ensures.ok z)
+    let z = ap (λ x. x.next) c.into_iter-item-iterator.ensures.into_iter_gives ∙ c.entries-item-items.ensures.1 in
+    (refl, λ bs s. none_told front (string_bytes c.in_ok-text.text) c.into_iter-item-iterator.result.next (entries_in bs) c.in_ok-text.ensures.ok z)
 
 pub loop-item-preserved : goal.loop-item-preserved
 loop-item-preserved c =
     let t = c.in-Some.ensures.steps in
     let front = codes "stamp " ++ decimal c.stamp-stamp.result in
-    let v = c.into-iter-item-iterator.result.view in
+    let v = c.into_iter-item-iterator.result.view in
     let i = c.loop-item.item-iterator.next in
-    let words = c.as-str.result.now in
-    let w : words ≡ entry_words (value_of c.in-Some.item) = c.as-str.ensures.value ∙ c.in-ok-words.ensures in
+    let words = c.as_str.result.now in
+    let w : words ≡ entry_words (value_of c.in-Some.item) = c.as_str.ensures.value ∙ c.in_ok-words.ensures in
     let e : Some (value_of c.in-Some.item) ≡ entry_at v i = t.0 ∙ ap (λ (x : RecordView). entry_at x i) c.loop-item.invariant.0 in (
       t.1 ∙ c.loop-item.invariant.0,
       λ bs s.
-          let p : string_bytes c.push-str.new.self ≡ (front ++ flat_map entry_words (take i (entries_in bs))) ++ words = pushed {was = string_bytes c.loop-item.text} words (c.loop-item.invariant.1 bs s) c.in-ok-push-str.was c.push-str.ensures.bytes in
-          one_told bs v i s front (string_bytes c.push-str.new.self) words (value_of c.in-Some.item) c.next.new.self.next p w e t.2,
+          let p : string_bytes c.push_str.new.self ≡ (front ++ flat_map entry_words (take i (entries_in bs))) ++ words = pushed {was = string_bytes c.loop-item.text} words (c.loop-item.invariant.1 bs s) c.in_ok-push_str.was c.push_str.ensures.bytes in
+          one_told bs v i s front (string_bytes c.push_str.new.self) words (value_of c.in-Some.item) c.next.new.self.next p w e t.2,
     )
 
 pub returns : goal.returns
 unfolding record_words
 returns c = λ bs s.
     let t = c.in-None.ensures.steps in
-    let v = c.into-iter-item-iterator.result.view in
+    let v = c.into_iter-item-iterator.result.view in
     let i = c.loop-item.item-iterator.next in
-    let same : v ≡ c.args.view = ap (λ x. x.view) c.into-iter-item-iterator.ensures.into-iter-gives ∙ c.entries-item-items.ensures.0 in
+    let same : v ≡ c.args.view = ap (λ x. x.view) c.into_iter-item-iterator.ensures.into_iter_gives ∙ c.entries-item-items.ensures.0 in
     let S : RecordView → Type 0 = λ x. Shows bs x in
     let u : Shows bs v = subst S (sym same) s in
     let e : None ≡ entry_at v i = t.0 ∙ ap (λ (x : RecordView). entry_at x i) c.loop-item.invariant.0 in

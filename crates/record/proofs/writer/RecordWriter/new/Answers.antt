@@ -4,7 +4,13 @@ use Rattle.record.specs.Held.{entries_of}
 use Rattle.record.proofs.writer.RecordWriter.new.Goals as goal
 
 pub invariant_of-result : goal.invariant_of-result
-invariant_of-result c = (refl, (omega arith, (omega (arith, c.new.ensures.len), (eq-eqb 0 _ (sym c.new.ensures.len), (refl, tt)))))
+invariant_of-result c = record {
+  sized = refl;
+  few = omega arith;
+  short = omega (arith, c.new.ensures.len);
+  ordered = eq-eqb 0 _ (sym c.new.ensures.len);
+  lawful = refl;
+}
 
 pub returns : goal.returns
 unfolding entries_of

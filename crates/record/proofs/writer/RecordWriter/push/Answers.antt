@@ -37,19 +37,13 @@ invariant_of-self c =
     let n = c.len.result - at in
     let e : c.append_body.new.self.len ≡ at + n = omega (arith, c.append_body.ensures.len, c.len.ensures, c.len-at.ensures) in
     let o : chained 0 (take s.count s.pairs) at ≡ true = ap (chained 0 (take s.count s.pairs)) c.len-at.ensures ∙ s.ordered in
-    let b = body_is (value_of c.args.entry.now) c.append_body.ensures.fitting in (
-      length-set s.pairs _ _ ∙ s.sized,
-      (
-        search rules,
-        (
-          omega (arith, c.append_body.ensures.room, s.short),
-          (
-            ap (chained 0 (take (s.count + 1) (set s.pairs s.count (at, n)))) e ∙ pushed_order s.pairs s.count at n (omega (arith, s.sized, ltb-true s.count 28 (sym c.if-not-has_room.ensures))) o,
-            (ap are_bodies (grown c) ∙ bodies_push (bodies_of s) _ s.lawful b, tt),
-          ),
-        ),
-      ),
-    )
+    let b = body_is (value_of c.args.entry.now) c.append_body.ensures.fitting in record {
+      sized = length-set s.pairs _ _ ∙ s.sized;
+      few = search rules;
+      short = omega (arith, c.append_body.ensures.room, s.short);
+      ordered = ap (chained 0 (take (s.count + 1) (set s.pairs s.count (at, n)))) e ∙ pushed_order s.pairs s.count at n (omega (arith, s.sized, ltb-true s.count 28 (sym c.if-not-has_room.ensures))) o;
+      lawful = ap are_bodies (grown c) ∙ bodies_push (bodies_of s) _ s.lawful b;
+    }
 
 pub returns : goal.returns
 unfolding entries_of
