@@ -12,7 +12,7 @@ use Rattle.script.specs.Tree.{Tree, done, stop, ask, Offer, wanted, refused}
 use Rattle.script.specs.Search.{whole_run}
 use Rattle.clean.specs.Files.{Files}
 use Rattle.clean.specs.Status.{Status, absent, source, target, status}
-use Rattle.clean.specs.Evaluate.{Outcome, page, fault, framed, taken, if_wanted, follow, lacking_in, yields, evaluate, member}
+use Rattle.clean.specs.Evaluate.{Outcome, page, fault, taken, if_wanted, follow, lacking_in, yields, evaluate, member}
 use Rattle.clean.specs.Laws.{PagesAreMadeAlone}
 
 no-page : {A : Type 0} (f : ScriptFault) (trail : Steps) (p : Bytes) → fault f trail ≡ page p → A

@@ -1,5 +1,5 @@
 -- How long a page, a run and a trail can become.
-use Rattle.std.proofs.Common.{◌≡◌, ℕ, zero, suc, ◌+◌, ◌≤◌, Bool, true, false, cond, leb, List, [], ◌∷◌, ◌++◌, length, is_some, Some, None, Option, sym, refl, ap, ◌∙◌, subst, arith, length-append}
+use Rattle.std.proofs.Common.{◌≡◌, ℕ, zero, suc, ◌+◌, ◌≤◌, Bool, true, false, cond, leb, List, [], ◌∷◌, ◌++◌, length, is_some, Some, None, Option, sym, refl, ◌∙◌, subst, arith, length-append}
 use Rattle.std.proofs.lemmas.List.{length_push}
 use Rattle.std.proofs.lemmas.Bool.{leb-true, le-leb, lt-leb}
 use Rattle.names.specs.Limits.{page_max, entries_max, depth_max}
@@ -9,24 +9,23 @@ use Rattle.faults.specs.declared.fault.ScriptFault.{ScriptFault}
 use Rattle.faults.specs.declared.fault.ScriptFault.TheVariants.{PageTooLong, NotAName}
 use Rattle.script.specs.Lines.{lines}
 use Rattle.script.specs.Words.{spelled_by, rest_of}
-use Rattle.script.specs.Tree.{Tree, done, stop, ask, Offer, wanted, refused, Entered, Entries, entered, with_entry, full, unless_full, wanted_unless, Does, pass, skip, add, fail, query, adding, copying, known, asking, named, formed, worded, does, lacking, offer, mode_after, goes, run}
+use Rattle.script.specs.Tree.{Tree, done, stop, ask, Offer, wanted, refused, Entered, Entries, entered, with_entry, full, unless_full, Does, pass, skip, add, fail, query, adding, copying, known, asking, named, worded, does, lacking, offer, mode_after, goes, run}
 use Rattle.script.specs.Candidates.{Candidate, candidates}
 use Rattle.script.specs.Search.{seeking, whole_run}
 use Rattle.script.specs.declared.word.Word.{Word}
 use Rattle.script.specs.declared.word.Word.TheVariants.{Need, IfCreate, IfHas, Say, Copy}
-use Rattle.script.specs.declared.word.Rest.{Rest}
 use Rattle.script.specs.declared.word.Rest.TheVariants.{Name, Text}
 use Rattle.script.specs.declared.word.Spelled.{Spelled}
 use Rattle.script.specs.declared.word.Spelled.TheVariants.{Nothing, Unknown, Known}
 use Rattle.script.specs.declared.word.Mode.{Mode}
 use Rattle.script.specs.declared.word.Mode.TheVariants.{Running, Skipping}
-use Rattle.script.specs.declared.entry.Kind.TheVariants.{Script, Needed, Absent}
+use Rattle.script.specs.declared.entry.Kind.TheVariants.{Needed, Absent}
 use Rattle.clean.specs.Files.{Files}
 use Rattle.clean.specs.Status.{Status, absent, source, target, status}
-use Rattle.clean.specs.Evaluate.{Outcome, page as paged, fault, framed, taken, if_wanted, follow, evaluate, Answer, made, failed, as_answer, answer, clean}
+use Rattle.clean.specs.Evaluate.{Outcome, page as paged, fault, taken, if_wanted, follow, evaluate, made, failed, as_answer, answer}
 use Rattle.clean.specs.Trace.{Question, asked, asked_on, asked_if}
 use Rattle.clean.specs.Laws.{PagesAreShort, RunsMakeFewEntries, TrailsEndInTheTarget}
-use Rattle.clean.specs.declared.fault.Cause.TheVariants.{Misnamed, Unknown as NotKnown, Plain, Script as InScript}
+use Rattle.clean.specs.declared.fault.Cause.TheVariants.{Misnamed, Script as InScript}
 use Rattle.clean.proofs.Drives.{trail_length, evaluate-length}
 
 -- ---- pages

@@ -1,5 +1,5 @@
 -- A run that is driven to its end comes to what clean evaluation says.
-use Rattle.std.proofs.Common.{◌≡◌, ℕ, zero, suc, ◌+◌, ◌-◌, ◌<◌, ◌≤◌, Bool, true, false, cond, leb, List, [], ◌∷◌, ◌++◌, length, take, is_some, Some, None, Option, sym, refl, ap, ◌∙◌, subst, add-one, arith, length-append}
+use Rattle.std.proofs.Common.{◌≡◌, ℕ, zero, suc, ◌+◌, ◌-◌, ◌<◌, ◌≤◌, Bool, true, false, cond, leb, List, [], ◌∷◌, ◌++◌, length, take, is_some, Some, None, Option, sym, refl, ap, ◌∙◌, subst, add-one, arith}
 use Rattle.std.proofs.lemmas.List.{take_all, length_push}
 use Rattle.std.proofs.lemmas.Bool.{leb-true}
 use Rattle.names.specs.Limits.{depth_max}
@@ -18,7 +18,7 @@ use Rattle.script.specs.declared.word.Word.{Word}
 use Rattle.script.proofs.Scripts.{Scripts, scripts}
 use Rattle.clean.specs.Files.{Files}
 use Rattle.clean.specs.Status.{Status, absent, source, target, plain, status, is_absent}
-use Rattle.clean.specs.Evaluate.{Outcome, page, fault, framed, taken, if_wanted, follow, yields, member, lacking_in, evaluate, Answer, made, failed, as_answer}
+use Rattle.clean.specs.Evaluate.{Outcome, page, fault, framed, taken, if_wanted, follow, yields, member, lacking_in, evaluate, failed, as_answer}
 use Rattle.clean.specs.Opening.{Opening, begins, stops, tried, opening}
 use Rattle.clean.specs.Answered.{gets, finished}
 use Rattle.clean.specs.Told.{told}

@@ -1,40 +1,36 @@
 -- A map in memory as laid files.
-use Rattle.std.proofs.Common.{◌≡◌, Bool, true, false, cond, List, [], ◌∷◌, length, take, is_some, Some, None, Option, sym, refl, ap, ◌∙◌, subst, true≢false, arith}
+use Rattle.std.proofs.Common.{◌≡◌, Bool, true, false, cond, List, [], ◌∷◌, length, is_some, Some, None, Option, sym, refl, ap, ◌∙◌, subst, true≢false, arith}
 use Rattle.std.specs.BTreeMap as tree
-use Rattle.std.specs.Map.{lookup, update}
-use Rattle.std.specs.Ordering.{eq_by_cmp, is_eq}
-use Rattle.std.specs.Cmp.{nat_cmp_total}
-use Rattle.std.specs.Cmp.Lexicographic.{slice_cmp}
+use Rattle.std.specs.Map.{lookup, keys_of, values_of}
+use Rattle.std.specs.Ordering.{eq_by_cmp}
+use Rattle.std.specs.Cmp.Lexicographic.{texts_ties, nat_list_eq_equiv}
 use Rattle.std.specs.Option.{option_map}
 use Rattle.std.specs.Str.{bytes_eq}
 use Rattle.std.specs.BTreeMap.{BTreeMap}
-use Rattle.std.proofs.StringKeys.Lists.{tied-text}
 use Rattle.std.proofs.lemmas.Slice.Eq.{bytes_eq-Decides}
 use Rattle.std.proofs.lemmas.List.{take_all}
 use Rattle.names.specs.Names.{Bytes, is_name}
 use Rattle.names.specs.Spelled.{spelled}
-use Rattle.names.specs.Order.{names_ordered}
+use Rattle.names.specs.Order.{name_order}
 use Rattle.names.specs.declared.name.Name.{Name}
 use Rattle.names.proofs.Scan.{lawful-short}
 use Rattle.script.specs.Pages.{content}
 use Rattle.script.specs.declared.page.Page.{Page}
-use Rattle.clean.specs.Files.{Files, held, with_file, laid}
-use Rattle.clean.specs.declared.files.Files as memory
+use Rattle.clean.specs.Files.{Files, held, with_file}
 
-pub tied_same : (a b : Name) → eq_by_cmp names_ordered a b ≡ bytes_eq (spelled a) (spelled b)
-tied_same a b = tied-text (spelled a) (spelled b)
+tied_same : (a b : Name) → eq_by_cmp name_order a b ≡ bytes_eq (spelled a) (spelled b)
+tied_same a b = sym (texts_ties (spelled a) (spelled b))
 
 mapped_cond : (b : Bool) (w L : Option Page) (R : Option Bytes) → R ≡ option_map content L → cond b (option_map content w) R ≡ option_map content (cond b w L)
 mapped_cond true w L R h = refl
 mapped_cond false w L R h = h
 
-held_at : (ks : List Name) (ps : List Page) (k : Name) → held ks ps (spelled k) ≡ option_map content (lookup (eq_by_cmp names_ordered) ks ps k)
-held_at [] ps k = refl
-held_at (x ∷ ks) [] k = refl
-held_at (x ∷ ks) (p ∷ ps) k =
-    let L = lookup (eq_by_cmp names_ordered) ks ps k in
-    mapped_cond (bytes_eq (spelled k) (spelled x)) (Some p) L (held ks ps (spelled k)) (held_at ks ps k)
-    ∙ ap (λ b. option_map content (cond b (Some p) L)) (sym (tied_same k x))
+held_at : (es : List (Name × Page)) (k : Name) → held (keys_of es) (values_of es) (spelled k) ≡ option_map content (lookup (eq_by_cmp name_order k) es)
+held_at [] k = refl
+held_at (e ∷ es) k =
+    let L = lookup (eq_by_cmp name_order k) es in
+    mapped_cond (bytes_eq (spelled k) (spelled e.0)) (Some e.1) L (held (keys_of es) (values_of es) (spelled k)) (held_at es k)
+    ∙ ap (λ b. option_map content (cond b (Some e.1) L)) (sym (tied_same k e.0))
 
 -- the name that lawful bytes spell
 abbrev name_of : (n : Bytes) → is_name n ≡ true → Name
@@ -64,21 +60,21 @@ Map = BTreeMap Name Page
 abbrev holds : Map → Files
 holds m = held (tree.keys m) (tree.values m)
 
-pub held_get : (m : Map) (k : Name) → holds m (spelled k) ≡ option_map content (tree.get names_ordered m k)
-held_get m k = held_at (tree.keys m) (tree.values m) k
+pub held_get : (m : Map) (k : Name) → holds m (spelled k) ≡ option_map content (tree.get name_order m k)
+held_get m k = held_at m.entries k
 
 by_bool : (b : Bool) (P : Type 0) → (b ≡ true → P) → (b ≡ false → P) → P
 by_bool true P y n = y refl
 by_bool false P y n = n refl
 
 module _ (m n : Map) (k : Name) (w : Option Page)
-    (put : (q : Name) → tree.get names_ordered n q ≡ update (eq_by_cmp names_ordered) (tree.get names_ordered m) k w q) where
+    (put : (q : Name) → tree.get name_order n q ≡ cond (eq_by_cmp name_order k q) w (tree.get name_order m q)) where
   at_name : (q : Name) → holds n (spelled q) ≡ with_file (holds m) (spelled k) (option_map content w) (spelled q)
   at_name q =
       held_get n q
       ∙ (ap (option_map content) (put q)
-      ∙ (sym (mapped_cond (eq_by_cmp names_ordered q k) w (tree.get names_ordered m q) (holds m (spelled q)) (held_get m q))
-      ∙ ap (λ b. cond b (option_map content w) (holds m (spelled q))) (tied_same q k)))
+      ∙ (sym (mapped_cond (eq_by_cmp name_order k q) w (tree.get name_order m q) (holds m (spelled q)) (held_get m q))
+      ∙ ap (λ b. cond b (option_map content w) (holds m (spelled q))) (tied_same k q ∙ nat_list_eq_equiv.symm (spelled k) (spelled q))))
 
   pub held-put : (s : Bytes) → holds n s ≡ with_file (holds m) (spelled k) (option_map content w) s
   held-put s =

@@ -1,14 +1,11 @@
 -- A skipped line is not looked at.
-use Rattle.std.proofs.Common.{◌≡◌, ℕ, ◌+◌, Bool, true, false, cond, List, [], ◌∷◌, ◌++◌, is_some, Some, None, Option, sym, refl, ap, ◌∙◌}
-use Rattle.names.specs.Names.{Bytes, is_name}
-use Rattle.script.specs.Words.{spelled_by, rest_of}
-use Rattle.script.specs.Tree.{Tree, Entries, entered, full, run, does, goes, query, skip, known, worded}
+use Rattle.std.proofs.Common.{◌≡◌, ℕ, ◌+◌, Bool, true, false, List, ◌∷◌, is_some, refl}
+use Rattle.names.specs.Names.{Bytes}
+use Rattle.script.specs.Words.{rest_of}
+use Rattle.script.specs.Tree.{Tree, Entries, entered, full, run, goes, known}
 use Rattle.script.specs.declared.word.Word.TheVariants.{IfHas}
-use Rattle.script.specs.declared.word.Rest.TheVariants.{Name}
-use Rattle.script.specs.declared.word.Spelled.TheVariants.{Known}
 use Rattle.script.specs.declared.word.Mode.{Mode}
-use Rattle.script.specs.declared.word.Mode.TheVariants.{Running, Skipping}
-use Rattle.script.specs.declared.entry.Kind.TheVariants.{Needed, Absent}
+use Rattle.script.specs.declared.entry.Kind.TheVariants.{Absent}
 use Rattle.clean.specs.Evaluate.{Outcome, follow}
 use Rattle.clean.specs.Laws.{SkippedLinesDoNothing}
 

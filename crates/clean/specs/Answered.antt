@@ -1,5 +1,5 @@
 -- What an evaluation in memory answers, by what it means.
-use Rattle.std.specs.Prelude.{◌≡◌, ℕ, ◌-◌, List, [], ◌∷◌, ◌++◌, length, Ok, Err, Result}
+use Rattle.std.specs.Prelude.{◌≡◌, ◌-◌, List, length, Ok, Err, Result}
 use Rattle.names.specs.Limits.{depth_max}
 use Rattle.names.specs.Names.{Bytes}
 use Rattle.faults.specs.Trails.{steps}

@@ -1,5 +1,5 @@
 -- Clean evaluation: what a name's page is as from bare files. A target that is needed on several ways is evaluated anew on each.
-use Rattle.std.specs.Prelude.{ℕ, zero, suc, Bool, true, false, cond, ◌||◌, List, [], ◌∷◌, ◌++◌}
+use Rattle.std.specs.Prelude.{ℕ, zero, suc, Bool, false, cond, ◌||◌, List, [], ◌∷◌, ◌++◌}
 use Rattle.std.specs.Str.{bytes_eq}
 use Rattle.names.specs.Limits.{depth_max}
 use Rattle.names.specs.Names.{Bytes, is_name}

@@ -1,5 +1,5 @@
 -- Laws of clean evaluation.
-use Rattle.std.specs.Prelude.{◌≡◌, ℕ, ◌+◌, ◌≤◌, Bool, true, false, List, [], ◌∷◌, ◌++◌, length, None}
+use Rattle.std.specs.Prelude.{◌≡◌, ℕ, ◌+◌, ◌≤◌, Bool, true, List, [], ◌∷◌, ◌++◌, length, None}
 use Rattle.names.specs.Limits.{page_max, entries_max, depth_max}
 use Rattle.names.specs.Names.{Bytes, is_name}
 use Rattle.faults.specs.Trails.{Steps}
@@ -13,7 +13,7 @@ use Rattle.script.specs.declared.word.Mode.TheVariants.{Running}
 use Rattle.script.specs.declared.entry.Kind.TheVariants.{Needed}
 use Rattle.script.specs.Search.{whole_run}
 use Rattle.clean.specs.Files.{Files}
-use Rattle.clean.specs.Evaluate.{Outcome, page, fault, follow, evaluate, Answer, made, failed, clean}
+use Rattle.clean.specs.Evaluate.{Outcome, page, follow, evaluate, made, failed, clean}
 use Rattle.clean.specs.Trace.{asked, questions, Agree}
 use Rattle.clean.specs.declared.fault.Cause.TheVariants.{Script}
 

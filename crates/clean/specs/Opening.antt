@@ -1,5 +1,5 @@
 -- The search for a target's script among laid files: the run that it opens, or why none begins.
-use Rattle.std.specs.Prelude.{Bool, true, false, cond, List, [], ◌∷◌, is_some, Some, None, Option}
+use Rattle.std.specs.Prelude.{cond, List, [], ◌∷◌, is_some, Some, None, Option}
 use Rattle.names.specs.Names.{Bytes}
 use Rattle.faults.specs.declared.fault.ScriptFault.{ScriptFault}
 use Rattle.faults.specs.declared.fault.ScriptFault.TheVariants.{Absent as NotThere, TooManyEntries}

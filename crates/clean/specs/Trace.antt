@@ -1,5 +1,5 @@
 -- What an evaluation asks about, in order, the questions of the targets that it opens among them.
-use Rattle.std.specs.Prelude.{◌≡◌, ℕ, zero, suc, Bool, true, false, cond, List, [], ◌∷◌, ◌++◌}
+use Rattle.std.specs.Prelude.{◌≡◌, ℕ, zero, suc, Bool, cond, List, [], ◌∷◌, ◌++◌}
 use Rattle.names.specs.Names.{Bytes}
 use Rattle.script.specs.Tree.{Tree, done, stop, ask, Offer, wanted, refused}
 use Rattle.script.specs.Search.{whole_run}

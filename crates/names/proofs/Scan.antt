@@ -1,8 +1,8 @@
 -- A name read byte by byte, knowing only whether a dot came just before.
-use Rattle.std.proofs.Common.{◌≡◌, ℕ, ◌+◌, ◌<◌, ◌≤◌, Bool, true, false, cond, not, ◌&&◌, ◌||◌, eqb, leb, ◌⊎◌, List, [], ◌∷◌, length, get_or, drop, sym, refl, ap, ◌∙◌, arith, rules}
+use Rattle.std.proofs.Common.{◌≡◌, ℕ, ◌+◌, ◌<◌, ◌≤◌, Bool, true, false, cond, not, ◌&&◌, ◌||◌, leb, List, [], ◌∷◌, length, get_or, drop, refl, ◌∙◌, arith}
 use Rattle.std.proofs.lemmas.Bool.{cases_Bool, le-leb, lt-leb, leb-true, and_parts}
 use Rattle.std.proofs.lemmas.List.{at_drop_more}
-use Rattle.names.specs.Names.{dot, plain, allowed, starts_with_dot as opens, ends_with_dot as closes, has_two_dots_in_a_row as twin, is_name}
+use Rattle.names.specs.Names.{dot, plain, allowed, ends_with_dot as closes, has_two_dots_in_a_row as twin, is_name}
 
 abbrev pub scan : Bool → List ℕ → Bool
 scan d [] = not d

@@ -1,3 +1,5 @@
+#![tactic(auto)]
+
 mod judge;
 pub mod limits;
 mod name;

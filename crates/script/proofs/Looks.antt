@@ -1,6 +1,6 @@
 -- The look-up of an entry and of a word, one step of each loop; one entry more.
-use Rattle.std.proofs.Common.{◌≡◌, ℕ, ◌+◌, ◌<◌, ◌≤◌, Bool, true, false, cond, ◌&&◌, leb, List, [], ◌∷◌, ◌++◌, map, length, get_or, take, drop, Some, None, Decides, Option, sym, refl, ap, ◌∙◌, subst, arith}
-use Rattle.std.specs.Cmp.Lexicographic.{Matches}
+use Rattle.std.proofs.Common.{◌≡◌, ℕ, ◌+◌, ◌<◌, ◌≤◌, Bool, true, false, cond, ◌&&◌, leb, List, [], ◌∷◌, map, length, get_or, take, drop, Some, eqb, sym, ap, ◌∙◌}
+use Rattle.std.specs.Cmp.Lexicographic.{pointwise}
 use Rattle.std.specs.Str.{bytes_eq}
 use Rattle.std.proofs.lemmas.List.{at_drop_more}
 use Rattle.std.proofs.lemmas.Bool.{le-leb, lt-leb}
@@ -38,7 +38,7 @@ found_in s [] = Unknown
 found_in s (e ∷ es) = cond (bytes_eq e.text.now s) (Known e.word e.rest) (found_in s es)
 
 module _ (items : List Row) (i : ℕ) (d : Row) (s : Bytes) (h : i < length items) (r : Bool)
-    (m : Matches (λ (a b : ℕ) (t : Bool). Decides t (a ≡ b)) (get_or items i d).text.now s r) where
+    (m : r ≡ pointwise eqb (get_or items i d).text.now s) where
   same : bytes_eq (get_or items i d).text.now s ≡ r
   same = same_from_decides _ _ (bytes_eq-Decides _ s) (slice_eq-Decides Decides-eqb _ s r m)
 

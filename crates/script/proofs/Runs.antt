@@ -1,5 +1,5 @@
 -- What a line does to a run.
-use Rattle.std.proofs.Common.{◌≡◌, ℕ, suc, ◌+◌, ◌<◌, ◌≤◌, Bool, true, false, cond, eqb, leb, List, [], ◌∷◌, ◌++◌, length, Some, Option, sym, refl, ap, ◌∙◌, subst, arith, length-append}
+use Rattle.std.proofs.Common.{◌≡◌, ℕ, ◌+◌, ◌<◌, ◌≤◌, Bool, true, false, cond, eqb, leb, [], ◌∷◌, ◌++◌, length, Some, Option, sym, refl, ap, subst, arith, length-append}
 use Rattle.std.proofs.lemmas.Bool.{lt-leb, leb-false}
 use Rattle.names.specs.Limits.{page_max}
 use Rattle.names.specs.Names.{Bytes}

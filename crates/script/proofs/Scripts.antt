@@ -1,10 +1,10 @@
 -- A script is never a target: the candidates of a target have no candidates themselves.
-use Rattle.std.proofs.Common.{◌≡◌, ℕ, ◌+◌, ◌-◌, Bool, true, false, cond, List, [], ◌∷◌, ◌++◌, length, drop, Some, None, codes, Option, sym, refl, ap, ◌∙◌, subst, append_assoc, arith, length-append}
+use Rattle.std.proofs.Common.{◌≡◌, ℕ, ◌-◌, Bool, true, false, cond, List, [], ◌∷◌, ◌++◌, length, drop, Some, None, codes, Option, sym, refl, ap, ◌∙◌, append_assoc, arith, length-append}
 use Rattle.std.specs.Str.{bytes_eq}
 use Rattle.std.proofs.lemmas.Slice.Eq.{bytes_eq-Decides}
 use Rattle.std.proofs.lemmas.List.{drop-append-le, drop_all}
 use Rattle.names.specs.Names.{Bytes, is_name}
-use Rattle.script.specs.Candidates.{Candidate, ends_in, if_name, own, ending_by, by_ending, fallback, candidates}
+use Rattle.script.specs.Candidates.{Candidate, ends_in, own, ending_by, by_ending, fallback, candidates}
 
 abbrev pub Scripts : List Candidate → Type 0
 Scripts [] = Unit {0}

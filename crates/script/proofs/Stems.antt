@@ -1,13 +1,13 @@
 -- A candidate by the name of its script.
-use Rattle.std.proofs.Common.{◌≡◌, ℕ, ◌-◌, Bool, true, false, cond, List, [], ◌∷◌, ◌++◌, length, take, drop, Some, None, codes, Decides, Option, sym, refl, ap, ◌∙◌, MatchOption}
-use Rattle.std.specs.Cmp.Lexicographic.{Matches}
+use Rattle.std.proofs.Common.{◌≡◌, ℕ, ◌-◌, Bool, true, false, [], ◌∷◌, ◌++◌, length, take, drop, Some, None, codes, eqb, Option, sym, refl, ap, ◌∙◌, MatchOption}
+use Rattle.std.specs.Cmp.Lexicographic.{pointwise}
 use Rattle.std.proofs.lemmas.Slice.Eq.{slice_eq-Decides, bytes_eq-Decides}
 use Rattle.std.proofs.lemmas.Bool.Decides.{same_from_decides, Decides-eqb}
 use Rattle.names.specs.Names.{Bytes, is_name}
 use Rattle.names.specs.Spelled.{spelled}
 use Rattle.names.specs.declared.name.Name.{Name}
 use Rattle.script.specs.Candidates as spec
-use Rattle.script.specs.Searched.{candidate, listed, stemmed}
+use Rattle.script.specs.Searched.{listed, stemmed}
 
 module _ (t s stem : Bytes) (n : ℕ) (front : take n t ≡ stem) where
   pub stem-listed : (o : Option Name) → MatchOption o (is_name s ≡ false) (λ m. spelled m ≡ s) → listed t (stemmed o n) ≡ spec.if_name s stem
@@ -31,7 +31,7 @@ pub all_candidates : (t : Bytes) → spec.ends_in (codes ".do") t ≡ false → 
 unfolding spec.candidates
 all_candidates t h = rw h
 
-pub ends_told : (t : Bytes) (b : Bool) → Matches (λ (x y : ℕ) (r : Bool). Decides r (x ≡ y)) (codes ".do") (drop (length t - 3) t) b → spec.ends_in (codes ".do") t ≡ b
+pub ends_told : (t : Bytes) (b : Bool) → b ≡ pointwise eqb (codes ".do") (drop (length t - 3) t) → spec.ends_in (codes ".do") t ≡ b
 ends_told t b m =
     let d = codes ".do" in
     let u = drop (length t - 3) t in

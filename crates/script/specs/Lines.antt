@@ -1,5 +1,5 @@
 -- A text as lines, and a line as what stands before and behind its first blank.
-use Rattle.std.specs.Prelude.{ℕ, Bool, true, false, cond, List, [], ◌∷◌, ◌++◌, ◌==◌}
+use Rattle.std.specs.Prelude.{ℕ, cond, List, [], ◌∷◌, ◌++◌, ◌==◌}
 use Rattle.names.specs.Names.{Bytes}
 
 -- what stands before the first byte c, and behind it

@@ -1,5 +1,5 @@
 -- The whole run of a target, from the search for its script on. It depends on the target's name alone.
-use Rattle.std.specs.Prelude.{Bool, true, false, cond, List, [], ◌∷◌, is_some}
+use Rattle.std.specs.Prelude.{cond, List, [], ◌∷◌, is_some}
 use Rattle.names.specs.Names.{Bytes}
 use Rattle.faults.specs.declared.fault.ScriptFault.TheVariants.{Absent as NotThere}
 use Rattle.script.specs.Lines.{lines}

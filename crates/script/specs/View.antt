@@ -1,5 +1,5 @@
 -- A run in memory, as the tree of what it still asks.
-use Rattle.std.specs.Prelude.{◌≡◌, ℕ, ◌+◌, List, [], ◌∷◌, ◌++◌, map, Some, None, Option}
+use Rattle.std.specs.Prelude.{◌≡◌, ℕ, ◌+◌, Some, None, Option}
 use Rattle.names.specs.Names.{Bytes}
 use Rattle.names.specs.Spelled.{spelled}
 use Rattle.faults.specs.declared.fault.ScriptFault.{ScriptFault}
@@ -7,10 +7,8 @@ use Rattle.script.specs.Lines.{lines}
 use Rattle.script.specs.Tree.{Tree, done, stop, Entries, Does, query, goes, run, Offer, wanted, refused}
 use Rattle.script.specs.Pages.{content}
 use Rattle.script.specs.Made.{entries}
-use Rattle.script.specs.declared.word.Word.{Word}
 use Rattle.script.specs.declared.word.Mode.{Mode}
 use Rattle.script.specs.declared.run.Run.{Run}
-use Rattle.script.specs.declared.run.Question.{Question}
 use Rattle.script.specs.declared.run.Step.{Step}
 use Rattle.script.specs.declared.run.Step.TheVariants.{Done, Fault, Ask}
 

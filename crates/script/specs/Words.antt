@@ -1,5 +1,5 @@
 -- The words of a script, and which word a line begins with.
-use Rattle.std.specs.Prelude.{ℕ, Bool, true, false, cond, List, [], ◌∷◌, codes, ◌==◌}
+use Rattle.std.specs.Prelude.{Bool, true, cond, List, [], ◌∷◌, codes, ◌==◌}
 use Rattle.std.specs.Str.{bytes_eq}
 use Rattle.names.specs.Names.{Bytes}
 use Rattle.script.specs.Lines.{before, after, filled}

@@ -1,3 +1,5 @@
+#![tactic(auto)]
+
 mod candidates;
 mod entry;
 pub mod laws;

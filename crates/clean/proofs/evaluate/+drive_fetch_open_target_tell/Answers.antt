@@ -1,4 +1,4 @@
-use Rattle.std.proofs.Common.{◌≡◌, ℕ, ◌+◌, ◌<◌, ◌≤◌, false, List, [], ◌∷◌, ◌++◌, length, take, sym, refl, ap, ◌∙◌, subst, true≢false, arith, rules}
+use Rattle.std.proofs.Common.{◌≡◌, ℕ, ◌+◌, false, [], ◌∷◌, ◌++◌, length, take, sym, ap, ◌∙◌, true≢false, arith}
 use Rattle.std.proofs.lemmas.List.{take_all, length_push}
 use Rattle.names.specs.Limits.{depth_max}
 use Rattle.names.specs.Names.{Bytes}
@@ -7,8 +7,7 @@ use Rattle.faults.specs.Trails.{steps}
 use Rattle.script.specs.Made.{entries}
 use Rattle.script.specs.Pages.{content}
 use Rattle.script.specs.Searched.{candidate}
-use Rattle.script.specs.View.{view, tree_of}
-use Rattle.clean.specs.Answered.{finished}
+use Rattle.script.specs.View.{view}
 use Rattle.clean.specs.Chains.{opened}
 use Rattle.clean.specs.Evaluate.{failed, as_answer}
 use Rattle.clean.specs.Opening.{begins}
@@ -18,21 +17,21 @@ use Rattle.clean.specs.Files.{laid}
 use Rattle.clean.proofs.Drives.{evaluate_open, too_deep, whole_opens, from_opening, opened-run, passed, asked-fault, there}
 use Rattle.clean.proofs.evaluate.+drive_fetch_open_target_tell.Goals as goal
 
-pub fetch-returns-then-is-full : goal.fetch-returns-then-is-full
-fetch-returns-then-is-full t c =
+pub fetch-returns-then-is_full : goal.fetch-returns-then-is_full
+fetch-returns-then-is_full t c =
     let L = laid c.args.files.now in
     let C = opened c.args.chain.now in
     let n = spelled c.args.name.now in
-    let e = c.new-then-is-full.ensures in
+    let e = c.new-then-is_full.ensures in
     record {
       value =
           (λ i. failed (e.0 i) (e.1 i))
-          ∙ sym (ap as_answer (too_deep L C n (sym c.requires ∙ ap told c.in-Target.is) (sym c.if-contains.ensures) (sym c.if-is-full.ensures)));
+          ∙ sym (ap as_answer (too_deep L C n (sym c.requires ∙ ap told c.in-Target.is) (sym c.if-contains.ensures) (sym c.if-is_full.ensures)));
       kept = λ h. absurd (true≢false (sym h));
     }
 
-pub open-target-drive-requires : goal.open-target-drive-requires
-open-target-drive-requires t c =
+pub open_target-drive-requires : goal.open_target-drive-requires
+open_target-drive-requires t c =
     let C = opened c.args.chain.now in
     let T = spelled c.args.target.now in
     let q : opened c.with-longer.result ≡ C ++ (T ∷ []) =
@@ -40,8 +39,8 @@ open-target-drive-requires t c =
     let k : length (opened c.with-longer.result) ≡ length C + 1 = ap length q ∙ length_push C T in
     (omega (arith, k, c.requires, c.decreases), omega (arith, k))
 
-pub open-target-returns-in-Err : goal.open-target-returns-in-Err
-open-target-returns-in-Err t c =
+pub open_target-returns-in-Err : goal.open_target-returns-in-Err
+open_target-returns-in-Err t c =
     let L = laid c.args.files.now in
     let C = opened c.args.chain.now in
     let T = spelled c.args.target.now in
@@ -53,15 +52,15 @@ open-target-returns-in-Err t c =
       kept = λ h. absurd (true≢false (sym h));
     }
 
-pub open-target-returns-in-Ok : goal.open-target-returns-in-Ok
-open-target-returns-in-Ok t c =
+pub open_target-returns-in-Ok : goal.open_target-returns-in-Ok
+open_target-returns-in-Ok t c =
     let L = laid c.args.files.now in
     let C = opened c.args.chain.now in
     let T = spelled c.args.target.now in
     let q : opened c.with-longer.result ≡ C ++ (T ∷ []) =
     c.with-longer.ensures ∙ take_all depth_max (C ++ (T ∷ [])) (omega (arith, length_push C T, c.requires)) in
     let o = c.in-Ok.opening in
-    let s : c.stem.result.now ≡ (candidate T o.script).stem = c.stem.ensures ∙ ap (take o.script.stem_len) c.as-bytes.ensures.value in
+    let s : c.stem.result.now ≡ (candidate T o.script).stem = c.stem.ensures ∙ ap (take o.script.stem_len) c.as_bytes.ensures.value in
     record {
       value =
           c.drive.ensures.value
@@ -77,14 +76,14 @@ tell-returns-in-Err t c =
     let T = spelled c.args.target.now in
     let n = spelled c.args.question.name in
     let p = view c.args.run.now in
-    let h : is_absent (status L n) ≡ false = ap is_absent (sym c.of-status.ensures) ∙ there c.of-status.result c.in-default.not-Absent in
+    let h : is_absent (status L n) ≡ false = ap is_absent (sym c.of-status.ensures) ∙ there c.of-status.result c.in_default.not-Absent in
     record {
       value =
           ap (λ x. failed x (steps c.pass.new.self.trail)) c.pass.ensures.0
           ∙ passed L C T n p.line c.fetch.new.fault.cause (steps c.fetch.new.fault.trail) (steps c.pass.new.self.trail) _ c.requires
           c.in-Err.ensures.value
           (c.pass.ensures.1 ∙ ap (λ (l : ℕ). take depth_max (steps c.fetch.new.fault.trail ++ ((T, l) ∷ []))) c.line-in-Err.ensures)
-          (asked-fault L C T p c.args.question.word n h c.in-default-refusal.ensures);
+          (asked-fault L C T p c.args.question.word n h c.in_default-refusal.ensures);
       kept = λ x. absurd (true≢false (sym x));
       falls = omega arith;
     }

@@ -1,4 +1,4 @@
-use Rattle.std.proofs.Common.{◌≡◌, ◌+◌, ◌-◌, ◌*◌, ◌≤◌, length}
+use Rattle.std.proofs.Common.{◌≡◌, ◌+◌, ◌-◌, ◌*◌, length}
 use Rattle.names.specs.Limits.{depth_max}
 use Rattle.names.specs.Spelled.{spelled}
 use Rattle.script.specs.View.{view, tree_of}
@@ -7,8 +7,8 @@ use Rattle.clean.specs.Chains.{opened}
 use Rattle.clean.specs.Files.{laid}
 use Rattle.clean.proofs.evaluate.+drive_fetch_open_target_tell.Given as goal
 
-abbrev pub decreases-open-target : goal.decreases-open-target
-decreases-open-target l = 4 * (depth_max - length (opened l.chain.now))
+abbrev pub decreases-open_target : goal.decreases-open_target
+decreases-open_target l = 4 * (depth_max - length (opened l.chain.now))
 
 abbrev pub decreases-fetch : goal.decreases-fetch
 decreases-fetch l = 4 * (depth_max - length (opened l.chain.now)) + 1

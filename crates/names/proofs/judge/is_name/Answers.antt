@@ -1,4 +1,4 @@
-use Rattle.std.proofs.Common.{sym, ◌∙◌, arith, rules}
+use Rattle.std.proofs.Common.{sym, ◌∙◌, arith}
 use Rattle.std.proofs.lemmas.List.{at_drop_all}
 use Rattle.names.proofs.Scan.{scan, lawful_is, too_long, next_twin, next_dot, next_plain, next_other}
 use Rattle.names.proofs.judge.is_name.Goals as goal

@@ -1,7 +1,6 @@
-use Rattle.std.proofs.Common.{◌≡◌, ℕ, ◌+◌, ◌-◌, ◌<◌, length, get_or, take, drop, Some, None, sym, ap, ◌∙◌, arith, rules}
+use Rattle.std.proofs.Common.{◌≡◌, ℕ, ◌+◌, ◌-◌, length, take, drop, Some, None, sym, ap, ◌∙◌, arith, rules}
 use native.Mathlib.Nat.{sub-zero}
 use Rattle.std.proofs.lemmas.List.{drop_all, take_rest, length-take-le}
-use Rattle.names.specs.Names.{Bytes}
 use Rattle.script.specs.Candidates.{cut_last}
 use Rattle.script.proofs.Cuts.{no-dot, last_dot}
 use Rattle.script.proofs.candidates.cut_last.Goals as goal

@@ -1,4 +1,4 @@
-use Rattle.std.proofs.Common.{◌≡◌, ℕ, ◌+◌, ◌-◌, ◌<◌, false, ◌++◌, length, take, sym, ap, ◌∙◌, subst, append_assoc, arith, length-append, rules, MatchOption}
+use Rattle.std.proofs.Common.{◌≡◌, ℕ, ◌+◌, ◌-◌, ◌<◌, false, ◌++◌, length, take, ap, ◌∙◌, subst, append_assoc, arith, length-append, rules, MatchOption}
 use native.Mathlib.Nat.{sub-zero}
 use Rattle.names.specs.Names.{Bytes, is_name}
 use Rattle.names.specs.Spelled.{spelled}
@@ -8,19 +8,19 @@ use Rattle.script.proofs.candidates.join.Goals as goal
 long : (a b c : Bytes) → 24 < length a + (length b + length c) → is_name (a ++ (b ++ c)) ≡ false
 long a b c h = too_long (a ++ (b ++ c)) (omega (arith, length-append a (b ++ c), length-append b c))
 
-pub returns-in-default : goal.returns-in-default
-returns-in-default c = long c.args.a.now c.args.b.now c.args.c.now (omega (arith, c.in-default.ensures.0))
+pub returns-in_default : goal.returns-in_default
+returns-in_default c = long c.args.a.now c.args.b.now c.args.c.now (omega (arith, c.in_default.ensures.0))
 
-pub returns-in-default-put : goal.returns-in-default-put
-returns-in-default-put c =
-    let k = c.in-default-put.ensures.0 in
+pub returns-in_default-put : goal.returns-in_default-put
+returns-in_default-put c =
+    let k = c.in_default-put.ensures.0 in
     let m = c.in-Some.ensures.0 in
     let l : length c.put.new.out ≡ 24 = search rules in
     long c.args.a.now c.args.b.now c.args.c.now (omega arith)
 
-pub returns-in-default-put-2 : goal.returns-in-default-put-2
-returns-in-default-put-2 c =
-    let k = c.in-default-put-2.ensures.0 in
+pub returns-in_default-put-2 : goal.returns-in_default-put-2
+returns-in_default-put-2 c =
+    let k = c.in_default-put-2.ensures.0 in
     let m = c.in-Some.ensures.0 in
     let n = c.in-Some-put.ensures.0 in
     let l : length c.put-2.new.out ≡ 24 = search rules in

@@ -1,4 +1,4 @@
-use Rattle.std.proofs.Common.{length, ap, ◌∙◌, arith, rules}
+use Rattle.std.proofs.Common.{length, ap, ◌∙◌, arith}
 use Rattle.std.proofs.lemmas.List.{take_all}
 use Rattle.script.specs.Searched.{listed}
 use Rattle.script.proofs.Stems.{stem-listed}
@@ -7,4 +7,4 @@ use Rattle.script.proofs.candidates.own_script.Goals as goal
 pub returns : goal.returns
 returns c =
     let t = c.args.target.now in
-    ap (listed t) c.with-stem.ensures ∙ stem-listed t _ t (length t) (take_all (length t) t (omega arith)) c.join.result c.join.ensures
+    ap (listed t) c.with_stem.ensures ∙ stem-listed t _ t (length t) (take_all (length t) t (omega arith)) c.join.result c.join.ensures

@@ -1,4 +1,4 @@
-use Rattle.std.proofs.Common.{sym, ◌∙◌, rules}
+use Rattle.std.proofs.Common.{sym, ◌∙◌}
 use Rattle.std.proofs.lemmas.List.{at_drop_all}
 use Rattle.script.proofs.Looks.{found_in, row_passed, row_here}
 use Rattle.script.proofs.word.find_word.Goals as goal

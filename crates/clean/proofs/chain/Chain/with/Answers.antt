@@ -4,8 +4,8 @@ use Rattle.names.specs.Spelled.{spelled}
 use Rattle.names.proofs.Capped.{capped_more, capped-full}
 use Rattle.clean.proofs.chain.Chain.with.Goals as goal
 
-pub returns-then-len-ge-DEPTH-MAX : goal.returns-then-len-ge-DEPTH-MAX
-returns-then-len-ge-DEPTH-MAX c =
+pub returns-then-len-ge-DEPTH_MAX : goal.returns-then-len-ge-DEPTH_MAX
+returns-then-len-ge-DEPTH_MAX c =
     capped-full spelled depth_max c.args.self.now.targets c.args.self.now.len (search rules) (spelled c.args.target) (search rules) (search rules)
 
 pub returns : goal.returns

@@ -1,4 +1,4 @@
-use Rattle.std.proofs.Common.{◌+◌, Bool, ◌||◌, map, drop, sym, ap, ◌∙◌, rules}
+use Rattle.std.proofs.Common.{◌+◌, Bool, ◌||◌, map, drop, sym, ap, ◌∙◌}
 use Rattle.std.proofs.lemmas.List.{at_drop_all}
 use Rattle.names.specs.Spelled.{spelled}
 use Rattle.clean.specs.Evaluate.{member}

@@ -1,4 +1,4 @@
-use Rattle.std.proofs.Common.{map, Some, sym, ap, ◌∙◌, rules}
+use Rattle.std.proofs.Common.{map, Some, sym, ap, ◌∙◌}
 use Rattle.std.proofs.lemmas.List.{at_drop_all}
 use Rattle.names.specs.Names.{Bytes}
 use Rattle.names.specs.Spelled.{spelled}
@@ -11,7 +11,7 @@ pub returns-then-is : goal.returns-then-is
 returns-then-is c =
     sym c.loop-slot.invariant
     ∙ (entry_here _ _ c.args.slots.now c.loop-slot.slot-index c.loop-slot-test.true c.slot-item.result c.slot-item.is c.is.result c.is.ensures c.if-is.true
-    ∙ ap (λ (b : Bytes). Some b) (sym c.as-bytes.ensures.value))
+    ∙ ap (λ (b : Bytes). Some b) (sym c.as_bytes.ensures.value))
 
 pub loop-slot-preserved : goal.loop-slot-preserved
 loop-slot-preserved c =

@@ -1,4 +1,4 @@
-use Rattle.std.proofs.Common.{◌+◌, length, sym, ap, ◌∙◌, arith, rules}
+use Rattle.std.proofs.Common.{◌+◌, length, sym, ap, ◌∙◌, arith}
 use Rattle.std.proofs.lemmas.List.{nil_from_length}
 use Rattle.std.proofs.lemmas.Bool.{eqb-true}
 use Rattle.script.specs.Lines.{lines}
@@ -16,6 +16,6 @@ returns c =
 pub returns-in-Some : goal.returns-in-Some
 returns-in-Some c =
     record {
-      tells = stepped_some c.read-line.result c.in-Some.step (view c.read-line.new.self) _ _ c.in-Some.is c.loop-self.invariant.0 c.read-line.ensures.tells;
-      falls = λ _. omega (arith, c.read-line.ensures.falls, c.loop-self.invariant.1);
+      tells = stepped_some c.read_line.result c.in-Some.step (view c.read_line.new.self) _ _ c.in-Some.is c.loop-self.invariant.0 c.read_line.ensures.tells;
+      falls = λ _. omega (arith, c.read_line.ensures.falls, c.loop-self.invariant.1);
     }

@@ -1,4 +1,4 @@
-use Rattle.std.proofs.Common.{◌+◌, ◌<◌, length, sym, refl, ap, ◌∙◌, arith, rules}
+use Rattle.std.proofs.Common.{◌+◌, length, sym, refl, ap, ◌∙◌, arith}
 use Rattle.script.specs.Lines.{filled}
 use Rattle.script.specs.View.{view, tree_of}
 use Rattle.script.proofs.Runs.{skipped, ran, went_as}
@@ -12,7 +12,7 @@ pub returns-in-Running-Nothing : goal.returns-in-Running-Nothing
 returns-in-Running-Nothing c =
     record {
       tells =
-          ran _ _ _ _ _ _ _ _ c.requires c.cut.ensures.front c.cut.ensures.behind c.in-Running-Nothing.is-0 _ _ (sym c.in-Running-Nothing.is-1 ∙ c.read-word-word.ensures.0) refl
+          ran _ _ _ _ _ _ _ _ c.requires c.cut.ensures.front c.cut.ensures.behind c.in-Running-Nothing.is-0 _ _ (sym c.in-Running-Nothing.is-1 ∙ c.read_word-word.ensures.0) refl
           ∙ simp c.in-Running-Nothing.is-0;
       falls = c.cut.ensures.shorter c.requires;
     }
@@ -21,7 +21,7 @@ pub returns-in-Running-Unknown : goal.returns-in-Running-Unknown
 returns-in-Running-Unknown c =
     record {
       tells =
-          ran _ _ _ _ _ _ _ _ c.requires c.cut.ensures.front c.cut.ensures.behind c.in-Running-Unknown.is-0 _ _ (sym c.in-Running-Unknown.is-1 ∙ c.read-word-word.ensures.0) refl;
+          ran _ _ _ _ _ _ _ _ c.requires c.cut.ensures.front c.cut.ensures.behind c.in-Running-Unknown.is-0 _ _ (sym c.in-Running-Unknown.is-1 ∙ c.read_word-word.ensures.0) refl;
       falls = c.cut.ensures.shorter c.requires;
     }
 
@@ -32,8 +32,8 @@ returns-in-Running-Known c =
       tells =
           went_as c.perform.result (view c.perform.new.self) _ (tree_of p)
           (ran p.stem p.mode (p.line + 1) p.made p.page p.rest _ c.cut.result.1.now c.requires c.cut.ensures.front c.cut.ensures.behind
-          c.in-Running-Known.is-0 _ _ (sym c.in-Running-Known.is-1 ∙ c.read-word-word.ensures.0)
-          (ap (filled p.stem) c.read-word-word.ensures.1))
+          c.in-Running-Known.is-0 _ _ (sym c.in-Running-Known.is-1 ∙ c.read_word-word.ensures.0)
+          (ap (filled p.stem) c.read_word-word.ensures.1))
           c.perform.ensures.tells;
       falls = omega (arith, ap length c.perform.ensures.keeps, c.cut.ensures.shorter c.requires);
     }
