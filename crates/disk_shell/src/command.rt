@@ -26,27 +26,27 @@ fn number8(words: &mut Words) -> Option<u8> {
 
 fn key(words: &mut Words) -> Option<Key> {
     let kind = words.next()?;
-    if kind == b"draft" {
+    if kind == b"draft".as_slice() {
         return Some(Key::Draft);
     }
-    if kind == b"stamp" {
+    if kind == b"stamp".as_slice() {
         return Some(Key::Stamp);
     }
     let name = Name::new(words.next()?)?;
-    if kind == b"laid" {
+    if kind == b"laid".as_slice() {
         return Some(Key::Laid(name));
     }
-    if kind == b"made" {
+    if kind == b"made".as_slice() {
         return Some(Key::Made(name));
     }
-    if kind == b"record" {
+    if kind == b"record".as_slice() {
         return Some(Key::Record(name));
     }
     None
 }
 
 fn expect_base(words: &mut Words) -> Option<()> {
-    if words.next()? == b"sheet" {
+    if words.next()? == b"sheet".as_slice() {
         Some(())
     } else {
         None
@@ -55,27 +55,27 @@ fn expect_base(words: &mut Words) -> Option<()> {
 
 // The layers of a stack, down to its base, of which the first word is read already.
 fn layers(top: &[u8], words: &mut Words) -> Option<Layers> {
-    if top == b"sheet" {
+    if top == b"sheet".as_slice() {
         return Some(Layers::Bare);
     }
-    if top == b"quota" {
+    if top == b"quota".as_slice() {
         let number = number8(words)?;
         let next = words.next()?;
-        if next == b"sheet" {
+        if next == b"sheet".as_slice() {
             return Some(Layers::Quota(number));
         }
-        if next == b"shelf" {
+        if next == b"shelf".as_slice() {
             expect_base(words)?;
             return Some(Layers::QuotaOverCache(number));
         }
         return None;
     }
-    if top == b"shelf" {
+    if top == b"shelf".as_slice() {
         let next = words.next()?;
-        if next == b"sheet" {
+        if next == b"sheet".as_slice() {
             return Some(Layers::Cache);
         }
-        if next == b"quota" {
+        if next == b"quota".as_slice() {
             let number = number8(words)?;
             expect_base(words)?;
             return Some(Layers::CacheOverQuota(number));
@@ -91,30 +91,30 @@ fn start(top: &[u8], words: &mut Words) -> Option<Command> {
 }
 
 fn call(word: &[u8], words: &mut Words) -> Option<Call> {
-    if word == b"count" {
+    if word == b"count".as_slice() {
         return Some(Call::Count);
     }
-    if word == b"used" {
+    if word == b"used".as_slice() {
         return Some(Call::IsUsed(key(words)?));
     }
-    if word == b"read" {
+    if word == b"read".as_slice() {
         return Some(Call::Read(key(words)?));
     }
-    if word == b"rename" {
+    if word == b"rename".as_slice() {
         let from = key(words)?;
         return Some(Call::Rename(from, key(words)?));
     }
-    if word == b"remove" {
+    if word == b"remove".as_slice() {
         return Some(Call::Remove(key(words)?));
     }
-    if word == b"settle" {
+    if word == b"settle".as_slice() {
         return Some(Call::Settle);
     }
     None
 }
 
 fn whole_line(word: &[u8], words: &mut Words) -> Option<Command> {
-    if word == b"restart" {
+    if word == b"restart".as_slice() {
         let charge = number16(words)?;
         return Some(Command::Restart(charge, number16(words)?));
     }
@@ -127,7 +127,7 @@ fn whole_line(word: &[u8], words: &mut Words) -> Option<Command> {
 /// The command of a line. Behind a store the words have its text; any other command ends with its line.
 pub fn parse(words: &mut Words) -> Option<Command> {
     let word = words.next()?;
-    if word == b"store" {
+    if word == b"store".as_slice() {
         return Some(Command::Call(Call::Store(key(words)?)));
     }
     let command = whole_line(word, words)?;

@@ -1,5 +1,5 @@
 -- What the calls owe, over places.
-use Rattle.std.proofs.Common.{◌≡◌, ℕ, suc, ◌+◌, ◌-◌, ◌<◌, ◌≤◌, Bool, true, false, not, ◌&&◌, ◌||◌, leb, List, [], ◌∷◌, ◌++◌, map, length, get_or, drop, set, is_some, Some, None, Ok, Err, Option, sym, refl, ap, ◌∙◌, subst, inl, inr, arith}
+use Rattle.std.proofs.Common.{◌≡◌, ℕ, suc, ◌-◌, ◌<◌, ◌≤◌, Bool, true, false, not, ◌&&◌, ◌||◌, leb, List, [], ◌∷◌, ◌++◌, map, length, get_or, drop, set, is_some, Some, None, Ok, Err, Option, sym, refl, ap, ◌∙◌, subst, inl, inr, arith}
 use lib.Count.{ones}
 use Rattle.std.proofs.lemmas.Bool.{and_parts, both_ways, not-true, ne_eqb, lt-ltb, le-ltb, le-leb, lt-leb}
 use Rattle.std.proofs.lemmas.List.{length-take}
@@ -7,8 +7,8 @@ use Rattle.disk.specs.declared.refusal.Refusal.TheVariants.{Long, Full}
 use Rattle.disk.specs.declared.key.Key.{Key}
 use Rattle.names.specs.Names.{Bytes}
 use Rattle.disk.specs.Keys.{KeyId, same_key, key_of}
-use Rattle.disk.specs.DiskState.{Content, Mark, firm, either, loose, is_firm, Cell, used, DiskState, count, used_at, shown}
-use Rattle.disk.specs.Calls.{Answer, dark, full, put, marked, settled, store, rename, remove, settle, read, read_into, counted}
+use Rattle.disk.specs.DiskState.{Content, Mark, firm, either, loose, is_firm, Cell, DiskState, count, used_at, shown}
+use Rattle.disk.specs.Calls.{Answer, dark, full, marked, settled, store, rename, remove, settle, read, read_into, counted}
 use Rattle.disk.specs.Restart.{Allows, Small}
 use Rattle.disk.specs.declared.refusal.Count.{Count}
 use Rattle.disk.proofs.Unless.{remove_is, rename_is}

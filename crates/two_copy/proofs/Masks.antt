@@ -1,5 +1,5 @@
 -- The number that marks the used places.
-use Rattle.std.proofs.Common.{◌≡◌, ℕ, zero, suc, ◌+◌, ◌-◌, ◌*◌, ◌/◌, ◌%◌, ◌^◌, ◌<◌, ◌≤◌, Bool, true, false, cond, List, [], ◌∷◌, length, set, sym, refl, ap, ◌∙◌, mul_comm, pow-suc, arith, pow_mono}
+use Rattle.std.proofs.Common.{◌≡◌, ℕ, zero, suc, ◌+◌, ◌*◌, ◌/◌, ◌%◌, ◌^◌, ◌<◌, ◌≤◌, Bool, true, false, cond, List, [], ◌∷◌, length, set, sym, refl, ap, ◌∙◌, mul_comm, pow-suc, arith, pow_mono}
 use mir.Val.{bool_byte}
 use lib.Count.{ones, ones_step, ones-le}
 use Rattle.std.proofs.lemmas.Nat.{div-mul-add, mod-mul-add, or_comm, or_shr, or_mod, shr_split}

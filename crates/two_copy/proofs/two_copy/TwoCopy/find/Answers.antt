@@ -1,4 +1,4 @@
-use Rattle.std.proofs.Common.{◌≡◌, ◌-◌, vec_items, ap, ◌∙◌, arith}
+use Rattle.std.proofs.Common.{◌≡◌, vec_items, ap, ◌∙◌, arith}
 use Rattle.disk.specs.Keys.{key_of}
 use Rattle.two_copy.specs.Places.{seek}
 use Rattle.two_copy.proofs.Found.{seek_found, seek_lost}

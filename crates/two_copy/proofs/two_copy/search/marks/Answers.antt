@@ -12,11 +12,11 @@ loop-i-init c = (omega arith, sym (at_drop_all mask c.args.places.now (length c.
 below : (ps : List Place) (i : ℕ) → 0 < i → length ps ≤ 64 → mask (drop i ps) < 2 ^ 63
 below ps i h l = mask_under (drop i ps) 63 (simp length-drop (omega arith))
 
-pub overflow-mul-m : goal.overflow-mul-m
-overflow-mul-m c = omega (arith, c.loop-i.invariant.1, below c.args.places.now c.loop-i.i c.loop-i-test.true c.requires)
+pub overflow_mul-m : goal.overflow_mul-m
+overflow_mul-m c = omega (arith, c.loop-i.invariant.1, below c.args.places.now c.loop-i.i c.loop-i-test.true c.requires)
 
-pub overflow-add-m : goal.overflow-add-m
-overflow-add-m c = omega (arith, c.loop-i.invariant.1, below c.args.places.now c.loop-i.i c.loop-i-test.true c.requires, c.from.ensures, bool_byte_lem c.is_used.result, bit_lt c.is_used.result)
+pub overflow_add-m : goal.overflow_add-m
+overflow_add-m c = omega (arith, c.loop-i.invariant.1, below c.args.places.now c.loop-i.i c.loop-i-test.true c.requires, c.from.ensures, bool_byte_lem c.is_used.result, bit_lt c.is_used.result)
 
 step : (ps : List Place) (i : ℕ) (p : Place) → i < length ps → p ≡ get_or ps i p → mask (drop i ps) ≡ 2 * mask (drop (i + 1) ps) + cond (used_place p) 1 0
 step ps i p h e = at_drop_more mask ps i p h ∙ rw (← e) refl

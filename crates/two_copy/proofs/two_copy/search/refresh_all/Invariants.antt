@@ -1,4 +1,4 @@
-use Rattle.std.proofs.Common.{◌≡◌, ◌+◌, ◌++◌, map, take, drop}
+use Rattle.std.proofs.Common.{◌≡◌, ◌++◌, map, take, drop}
 use Rattle.two_copy.specs.Places.{refresh}
 use Rattle.two_copy.proofs.two_copy.search.refresh_all.Given as goal
 

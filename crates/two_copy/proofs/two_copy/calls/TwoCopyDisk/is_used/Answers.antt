@@ -1,4 +1,4 @@
-use Rattle.std.proofs.Common.{◌≡◌, ℕ, ◌-◌, ◌<◌, true, false, List, is_some, Some, None, vec_items, vec_len, Option, sym, ◌∙◌}
+use Rattle.std.proofs.Common.{◌≡◌, ℕ, ◌<◌, true, false, List, is_some, Some, None, vec_items, vec_len, Option, sym, ◌∙◌}
 use Rattle.disk.specs.Keys.{KeyId, key_of}
 use Rattle.two_copy.specs.declared.place.Place.{Place}
 use Rattle.two_copy.specs.Places.{seek, found}
@@ -12,4 +12,4 @@ is_found ps k n (Some i) h = sym h.0
 pub returns : goal.returns
 returns c = λ m h.
     let s = c.args.self.now in
-    c.is-some.ensures ∙ (is_found (vec_items s.places) (key_of c.args.key.now) (vec_len s.places) c.find.result c.find.ensures ∙ used-found (vec_items s.places) s.charge m h (key_of c.args.key.now))
+    c.is_some.ensures ∙ (is_found (vec_items s.places) (key_of c.args.key.now) (vec_len s.places) c.find.result c.find.ensures ∙ used-found (vec_items s.places) s.charge m h (key_of c.args.key.now))

@@ -1,4 +1,4 @@
-use Rattle.std.proofs.Common.{◌≡◌, ◌-◌, ◌<◌, true, false, length, None, vec_items, sym, refl, ap, ◌∙◌, arith, length-set}
+use Rattle.std.proofs.Common.{◌≡◌, ◌<◌, true, false, length, None, vec_items, sym, refl, ap, ◌∙◌, arith, length-set}
 use Rattle.disk.specs.Keys.{key_of}
 use Rattle.two_copy.specs.Places.{slot, found, copies}
 use Rattle.two_copy.proofs.Slots.{fits-slot}
@@ -7,14 +7,14 @@ use Rattle.two_copy.proofs.Calls.{rename-full, rename-done, second_fits, used_no
 use Rattle.two_copy.proofs.Settled.{rename-settled}
 use Rattle.two_copy.proofs.two_copy.calls.TwoCopyDisk.rename.Goals as goal
 
-pub returns-in-default-room : goal.returns-in-default-room
-returns-in-default-room c = (
-  (λ m h.
+pub returns-in_default-room : goal.returns-in_default-room
+returns-in_default-room c = record {
+  value = λ m h.
       let s = c.args.self.now in
       rename-full (vec_items s.places) s.charge m h (key_of c.args.from.now) (key_of c.args.to.now) c.if-self-eq0.false (sym c.if-eq.ensures) s.apart c.in-Some.ensures.0
-      (omega (arith, c.in-default-room.ensures, s.places.ok.0))),
-  λ k. refl,
-)
+      (omega (arith, c.in_default-room.ensures, s.places.ok.0));
+  k_unchanged = λ k. refl;
+}
 
 pub put-requires : goal.put-requires
 put-requires c =
@@ -47,12 +47,12 @@ returns c =
     let g = c.in-Some-room.ensures in
     let t : found ps a ≡ true = found-used ps a ∙ rw f.0 refl in
     let l : slot ps (key_of c.args.to.now) < length ps = omega (arith, g.0, g.1, s.places.ok.0) in
-    let n = sym c.if-eq.ensures in (
-      (λ m h.
+    let n = sym c.if-eq.ensures in record {
+      value = λ m h.
           let r = rename-done ps s.charge m h c.args.from.now c.args.to.now c.index-old.result.now c.index.result.now c.if-self-eq0.false n s.apart s.tidy f.0
           l (rw (← f.1.0) c.index-old.ensures) (rw (← g.0) c.index.ensures) in
-          (r.0, rw (c.put-2.ensures.0, c.put-2.ensures.1, c.put.ensures.0, c.put.ensures.1, f.1.0, g.0) r.1)),
-      λ j.
+          (r.0, rw (c.put-2.ensures.0, c.put-2.ensures.1, c.put.ensures.0, c.put.ensures.1, f.1.0, g.0) r.1);
+      k_unchanged = λ j.
           ap (λ qs. (copies qs j).settled) c.put-2.ensures.0
-          ∙ rw (c.put.ensures.0, f.1.0, g.0) (rename-settled ps s.apart c.args.from.now c.args.to.now c.index-old.result.now c.index.result.now c.index-old.result.now.present None n s.tidy t l (rw (← f.1.0) c.index-old.ensures) (rw (← g.0) c.index.ensures) j),
-    )
+          ∙ rw (c.put.ensures.0, f.1.0, g.0) (rename-settled ps s.apart c.args.from.now c.args.to.now c.index-old.result.now c.index.result.now c.index-old.result.now.present None n s.tidy t l (rw (← f.1.0) c.index-old.ensures) (rw (← g.0) c.index.ensures) j);
+    }
