@@ -1,6 +1,6 @@
-use Rattle.std.proofs.Common.{sym, ◌∙◌, arith, rules}
+use Rattle.std.proofs.Common.{sym, ◌∙◌, arith}
 use Rattle.std.proofs.lemmas.List.{at_drop_all}
-use Rattle.protocol.proofs.Readings.{reading, starts, starts_not, ends, at_other, at_digit, at_large}
+use Rattle.protocol.proofs.Readings.{reading, ends, at_other, at_digit, at_large}
 use Rattle.protocol.proofs.decimal.number.Goals as goal
 
 pub returns-then-not-is_digit : goal.returns-then-not-is_digit
