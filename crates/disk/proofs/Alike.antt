@@ -9,7 +9,7 @@ use Rattle.disk.specs.declared.call.Call.TheVariants.{Count, IsUsed, Read, Store
 use Rattle.disk.specs.declared.call.Reply.{Reply}
 use Rattle.disk.specs.declared.call.Reply.TheVariants.{Used, Changed}
 use Rattle.disk.specs.Keys.{KeyId, same_key, key_of}
-use Rattle.disk.specs.DiskState.{Content, firm, loose, is_firm, Cell, DiskState, shown, used_at, count}
+use Rattle.disk.specs.DiskState.{Content, loose, is_firm, Cell, DiskState, shown, used_at, count}
 use Rattle.disk.specs.Calls.{Answer, unless, done, dark, full, put, marked, renamed, removed, settled, spent, store, rename, remove, settle}
 use Rattle.disk.specs.Lawful.{Lawful}
 use Rattle.disk.specs.Perform.{reply, after, filled, replies}

@@ -2,7 +2,7 @@ ghost use Rattle.std.specs.Prelude.{◌≡◌};
 ghost use Rattle.disk.specs.Keys.{key_of};
 ghost use Rattle.disk.specs.DiskState.{DiskState, used_at};
 ghost use Rattle.disk.specs.Lawful.{Lawful};
-ghost use Rattle.disk.specs.Calls.{counted, Within, read as ReadStep, read_into, store as store_step, rename as rename_step, remove as remove_step, settle as settle_step};
+ghost use Rattle.disk.specs.Calls.{counted, Within, read as read_step, read_into, store as store_step, rename as rename_step, remove as remove_step, settle as settle_step};
 ghost use Rattle.disk.specs.Restart.{Restarted};
 
 use crate::key::Key;
@@ -26,7 +26,7 @@ pub trait Disk {
     /// Puts the bytes of the key at the front of the buffer and says how many they are; or none, if it shows nothing.
     fn read(&mut self, key: &Key, into: &mut [u8; BLOCK_MAX]) -> Result<Option<usize>, Refusal>
         ensures bound { Within result }
-        ensures step { (m : DiskState) → models self.old m → (result ≡ ReadStep m (key_of key.now)) × ((into.new ≡ read_into m (key_of key.now) into.old) × models self.new m) };
+        ensures step { (m : DiskState) → models self.old m → (result ≡ read_step m (key_of key.now)) × ((into.new ≡ read_into m (key_of key.now) into.old) × models self.new m) };
 
     /// Lets the key show the bytes. Until the next settle a cut may leave it with anything.
     fn store(&mut self, key: &Key, bytes: &[u8]) -> Result<(), Refusal>

@@ -1,3 +1,5 @@
+#![tactic(auto)]
+
 mod block;
 mod call;
 mod disk;

@@ -1,7 +1,7 @@
 ghost use Rattle.std.specs.Prelude.{◌≡◌, ◌%◌, ◌<◌, ◌≤◌, true, false, map, is_some, IfOk, if◌then◌else◌, Some, None, Ok, Err, vec_len, ◌==◌, nat_eq, slice_set};
 ghost use Rattle.disk.specs.Keys.{KeyId, key_of};
 ghost use Rattle.disk.specs.DiskState.{DiskState, blank};
-ghost use Rattle.disk.specs.Calls.{Within, read as ReadStep, read_into, store as store_step, rename as rename_step, remove as remove_step, settle as settle_step};
+ghost use Rattle.disk.specs.Calls.{Within, read as read_step, read_into, store as store_step, rename as rename_step, remove as remove_step, settle as settle_step};
 ghost use Rattle.disk.specs.Restart.{Restarted};
 ghost use Rattle.two_copy.specs.Places.{places_in, copies, found, fits, used_place, refresh, seek as seek_place, slot as slot_place};
 ghost use Rattle.two_copy.specs.Described.{Describes, settled_copy, present_copy};
@@ -108,7 +108,7 @@ impl Disk for TwoCopy {
 
     fn read(&mut self, key: &Key, into: &mut [u8; BLOCK_MAX]) -> Result<Option<usize>, Refusal>
         ensures bound { Within result }
-        ensures step { (m : DiskState) → Describes self.old m → (result ≡ ReadStep m (key_of key.now)) × ((into.new ≡ read_into m (key_of key.now) into.old) × Describes self.new m) }
+        ensures step { (m : DiskState) → Describes self.old m → (result ≡ read_step m (key_of key.now)) × ((into.new ≡ read_into m (key_of key.now) into.old) × Describes self.new m) }
         ensures same { self.new ≡ self.old }
     {
         if self.charge == 0 {
