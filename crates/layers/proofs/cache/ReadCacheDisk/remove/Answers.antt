@@ -14,9 +14,9 @@ returns g c = (
         e.0,
         (
           e.1,
-          rw c.forget-all.ensures
+          rw c.forget_all.ensures
               (agree_off m (remove m k).1 k (map (forgotten k) c.args.self.now.holds) (silent_forgotten k _) (λ j n. remove_other m j k n) (agree_forgotten m k _ h.1)),
         ),
       )),
-  c.forget-all.ensures,
+  c.forget_all.ensures,
 )
