@@ -1,5 +1,5 @@
 -- A line of a preview, by the calls that it makes.
-use Rattle.std.proofs.Common.{◌≡◌, ℕ, ◌+◌, ◌<◌, ◌≤◌, Bool, true, false, cond, leb, List, [], ◌∷◌, ◌++◌, map, length, get_or, take, is_some, Some, None, Option, sym, refl, ap, ◌∙◌, true≢false}
+use Rattle.std.proofs.Common.{◌≡◌, ℕ, ◌+◌, ◌<◌, ◌≤◌, Bool, true, false, cond, leb, [], ◌∷◌, ◌++◌, map, length, get_or, take, is_some, Some, None, Option, sym, refl, ap, ◌∙◌, true≢false}
 use Rattle.std.specs.Str.{bytes_eq}
 use Rattle.std.proofs.lemmas.Slice.Eq.{bytes_eq-Decides}
 use Rattle.std.proofs.lemmas.List.{length-map, length-take-le, map_push, take_more}
@@ -7,7 +7,7 @@ use Rattle.names.specs.Limits.{page_max}
 use Rattle.names.specs.Names.{Bytes, is_name}
 use Rattle.clean.specs.Files.{Files, with_file}
 use Rattle.protocol.specs.Substitutes.{newline, bar, replaced}
-use Rattle.preview.specs.Session.{Reply, done, no, laying, taking}
+use Rattle.preview.specs.Session.{done, no, laying, taking}
 
 missing : (o : Option Bytes) → is_some o ≡ false → o ≡ None
 missing None h = refl

@@ -1,5 +1,5 @@
 -- What a line of a preview comes to: its answer, and the laid files behind it.
-use Rattle.std.specs.Prelude.{ℕ, Bool, true, false, cond, List, [], ◌∷◌, ◌++◌, map, length, is_some, Some, None, codes, decimal, Option, nat_le}
+use Rattle.std.specs.Prelude.{ℕ, cond, [], ◌∷◌, ◌++◌, map, length, is_some, Some, None, codes, decimal, Option, nat_le}
 use Rattle.names.specs.Limits.{page_max}
 use Rattle.names.specs.Names.{Bytes, is_name}
 use Rattle.faults.specs.Trails.{Steps}

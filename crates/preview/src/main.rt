@@ -1,3 +1,5 @@
+#![tactic(auto)]
+
 use clean::Files;
 use protocol::LineBuffer;
 use std::io;

@@ -1,5 +1,5 @@
 -- The worked cases of names and clean pages.
-use Rattle.std.specs.Prelude.{◌≡◌, ℕ, Bool, true, false, cond, List, [], ◌∷◌, ◌++◌, replicate, Some, None, codes}
+use Rattle.std.specs.Prelude.{◌≡◌, true, false, cond, List, [], ◌∷◌, ◌++◌, replicate, Some, None, codes}
 use Rattle.std.specs.Str.{bytes_eq}
 use Rattle.names.specs.Names.{Bytes, is_name}
 use Rattle.faults.specs.declared.fault.ScriptFault.TheVariants.{Cycle, TooDeep}

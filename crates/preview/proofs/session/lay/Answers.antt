@@ -1,7 +1,7 @@
-use Rattle.std.proofs.Common.{◌≡◌, true, leb, map, length, Some, sym, refl, ap, ◌∙◌, rules}
+use Rattle.std.proofs.Common.{◌≡◌, true, leb, length, Some, sym, ap, ◌∙◌}
 use Rattle.std.proofs.lemmas.Bool.{le-leb}
 use Rattle.names.specs.Limits.{page_max}
-use Rattle.names.specs.Names.{Bytes, is_name}
+use Rattle.names.specs.Names.{is_name}
 use Rattle.names.specs.Spelled.{spelled}
 use Rattle.clean.specs.Files.{Files, laid, with_file}
 use Rattle.preview.proofs.Sessions.{laid_well}
@@ -18,5 +18,5 @@ returns c =
     let h : leb (length text) page_max ≡ true = le-leb (length text) page_max d.0 in
     let t = laid_well L n text y h in (
       sym (ap (λ p. p.0) t),
-      λ m. c.in-ok-lay.ensures m ∙ ((λ i. with_file L (e i) (Some (d.1 i)) m) ∙ sym (ap (λ p. p.1 m) t)),
+      λ m. c.in_ok-lay.ensures m ∙ ((λ i. with_file L (e i) (Some (d.1 i)) m) ∙ sym (ap (λ p. p.1 m) t)),
     )
