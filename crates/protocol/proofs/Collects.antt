@@ -1,10 +1,10 @@
 -- Lines collected byte by byte are the lines of the input.
-use Rattle.std.proofs.Common.{◌≡◌, ℕ, ◌+◌, ◌<◌, ◌≤◌, Bool, true, false, cond, eqb, leb, List, [], ◌∷◌, ◌++◌, map, length, take, set, Some, None, Option, sym, refl, ap, ◌∙◌, ap₂, arith}
+use Rattle.std.proofs.Common.{◌≡◌, ℕ, ◌+◌, ◌<◌, ◌≤◌, Bool, true, false, cond, eqb, leb, List, [], ◌∷◌, ◌++◌, map, length, take, set, Some, None, sym, refl, ap, ◌∙◌, ap₂, arith}
 use Rattle.std.proofs.lemmas.List.{append-nil, append_assoc, length_push, length-take-le, take_more_set}
 use Rattle.std.proofs.lemmas.Bool.{cond-true, cond-false, le-leb, lt-leb, leb-false}
 use Rattle.names.specs.Limits.{line_max}
 use Rattle.names.specs.Names.{Bytes}
-use Rattle.protocol.specs.InputLines.{Line, on_first, cut, bounded, input_lines}
+use Rattle.protocol.specs.InputLines.{on_first, cut, bounded, input_lines}
 use Rattle.protocol.specs.Collected.{grown, is_empty, lines_from}
 
 -- bytes in front of the first line

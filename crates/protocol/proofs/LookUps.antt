@@ -1,9 +1,6 @@
 -- A search through the code's own table of words.
-use Rattle.std.proofs.Common.{◌≡◌, ℕ, ◌+◌, ◌<◌, Bool, true, false, cond, List, [], ◌∷◌, length, get_or, drop, Some, None, Decides, Option, sym, ap, ◌∙◌}
-use Rattle.std.specs.Cmp.Lexicographic.{Matches}
+use Rattle.std.proofs.Common.{◌≡◌, ℕ, ◌+◌, ◌<◌, Bool, true, false, cond, List, [], ◌∷◌, length, get_or, drop, Some, None, Option, sym, ap, ◌∙◌}
 use Rattle.std.specs.Str.{bytes_eq}
-use Rattle.std.proofs.lemmas.Slice.Eq.{slice_eq-Decides, bytes_eq-Decides}
-use Rattle.std.proofs.lemmas.Bool.Decides.{same_from_decides, Decides-eqb}
 use Rattle.std.proofs.lemmas.List.{at_drop_more}
 use Rattle.names.specs.Names.{Bytes}
 use Rattle.protocol.specs.declared.command.Form.{Form}
@@ -14,9 +11,9 @@ found_in s [] = None
 found_in s (w ∷ ws) = cond (bytes_eq w.spelling.now s) (Some w.form) (found_in s ws)
 
 module _ (items : List Word) (i : ℕ) (d : Word) (s : Bytes) (h : i < length items) (r : Bool)
-    (m : Matches (λ (a b : ℕ) (t : Bool). Decides t (a ≡ b)) (get_or items i d).spelling.now s r) where
+    (m : r ≡ bytes_eq (get_or items i d).spelling.now s) where
   same : bytes_eq (get_or items i d).spelling.now s ≡ r
-  same = same_from_decides _ _ (bytes_eq-Decides _ s) (slice_eq-Decides Decides-eqb _ s r m)
+  same = sym m
 
   step : found_in s (drop i items) ≡ cond r (Some (get_or items i d).form) (found_in s (drop (i + 1) items))
   step = at_drop_more (found_in s) items i d h ∙ ap (λ b. cond b (Some (get_or items i d).form) (found_in s (drop (i + 1) items))) same

@@ -1,5 +1,5 @@
 -- What an answer prints: one line.
-use Rattle.std.specs.Prelude.{ℕ, List, [], ◌∷◌, ◌++◌, map, codes, decimal}
+use Rattle.std.specs.Prelude.{ℕ, [], ◌∷◌, ◌++◌, map, codes, decimal}
 use Rattle.std.specs.List.{flat_map}
 use Rattle.names.specs.Names.{Bytes}
 use Rattle.faults.specs.Trails.{Steps}

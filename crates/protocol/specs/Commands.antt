@@ -1,5 +1,5 @@
 -- The commands, and the lines that give them.
-use Rattle.std.specs.Prelude.{ℕ, Bool, cond, List, [], ◌∷◌, Some, None, codes, Option, ◌==◌}
+use Rattle.std.specs.Prelude.{ℕ, cond, List, [], ◌∷◌, Some, None, codes, Option, ◌==◌}
 use Rattle.std.specs.Str.{bytes_eq}
 use Rattle.names.specs.Names.{Bytes}
 use Rattle.protocol.specs.Decimals.{number_of}

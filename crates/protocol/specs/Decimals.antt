@@ -1,5 +1,5 @@
 -- The numbers of a command: 0 to 65,535 in decimal, without a leading zero.
-use Rattle.std.specs.Prelude.{ℕ, ◌+◌, ◌-◌, ◌*◌, Bool, true, false, cond, not, ◌&&◌, List, [], ◌∷◌, Some, None, Option, ◌==◌, nat_le}
+use Rattle.std.specs.Prelude.{ℕ, ◌+◌, ◌-◌, ◌*◌, Bool, true, false, cond, not, ◌&&◌, [], ◌∷◌, Some, None, Option, ◌==◌, nat_le}
 use Rattle.names.specs.Names.{Bytes}
 
 abbrev pub number_max : ℕ

@@ -1,5 +1,5 @@
 -- The forms of a line, each by what it looks like.
-use Rattle.std.specs.Prelude.{◌≡◌, ℕ, ◌≤◌, Bool, true, not, ◌&&◌, ◌⊎◌, List, [], ◌∷◌, ◌++◌, codes, decimal, ◌==◌}
+use Rattle.std.specs.Prelude.{◌≡◌, ◌≤◌, Bool, true, not, ◌&&◌, ◌⊎◌, [], ◌∷◌, ◌++◌, codes, decimal, ◌==◌}
 use Rattle.names.specs.Names.{Bytes}
 use Rattle.protocol.specs.Decimals.{number_max}
 use Rattle.protocol.specs.Commands.{Request, lay, take, show, build, page, restart}

@@ -1,5 +1,5 @@
 -- The lines of an input: each ends at a byte 10, and bytes behind the last one are a line if there are any.
-use Rattle.std.specs.Prelude.{ℕ, Bool, true, false, cond, List, [], ◌∷◌, ◌++◌, map, length, Some, None, Option, ◌==◌, nat_le}
+use Rattle.std.specs.Prelude.{ℕ, cond, List, [], ◌∷◌, map, length, Some, None, Option, ◌==◌, nat_le}
 use Rattle.names.specs.Limits.{line_max}
 use Rattle.names.specs.Names.{Bytes}
 use Rattle.protocol.specs.Substitutes.{newline}

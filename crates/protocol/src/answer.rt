@@ -73,7 +73,7 @@ impl Answer<'_> {
     pub fn print_to(&self, trail: &Trail, out: &mut Vec<u8>) -> Result<(), AllocError>
         ensures { out.new.items ≡ (if is_ok result then out.old.items ++ answer_line self.now (steps trail.now) else out.old.items) }
     {
-        let mut line = self.text(trail, out.allocator())?;
+        let mut line = self.text(trail, *out.allocator())?;
         line.push(NEWLINE)?;
         out.extend_from_slice(line.as_slice())
     }

@@ -1,4 +1,5 @@
 //! Lines in, commands out; answers in, lines out: what the programs share.
+#![tactic(auto)]
 
 mod answer;
 mod command;

@@ -6,20 +6,20 @@ use Rattle.protocol.proofs.Prints.{trail_more, trail_all}
 use Rattle.protocol.proofs.answer.refusal_text.Goals as goal
 
 pub loop-frame-init : goal.loop-frame-init
-loop-frame-init c = sym (append-nil (string_bytes c.in-ok-text.text))
+loop-frame-init c = sym (append-nil (string_bytes c.in_ok-text.text))
 
 pub loop-frame-preserved : goal.loop-frame-preserved
 loop-frame-preserved c =
     let f = c.frame-item.result in
-    trail_more (string_bytes c.in-ok-text.text) (string_bytes c.loop-frame.text) (string_bytes c.push-str.new.self) c.loop-frame.frame-index c.frames-frame-items.result.now f c.as-str.result.now
+    trail_more (string_bytes c.in_ok-text.text) (string_bytes c.loop-frame.text) (string_bytes c.push_str.new.self) c.loop-frame.frame-index c.frames-frame-items.result.now f c.as_str.result.now
     c.loop-frame-test.true
     c.loop-frame.invariant
-    (c.as-str.ensures.value ∙ (c.in-ok-passed.ensures ∙ ap (λ x. frame_text (step x)) c.frame-item.is))
-    c.in-ok-push-str.ensures.bytes
+    (c.as_str.ensures.value ∙ (c.in_ok-passed.ensures ∙ ap (λ x. frame_text (step x)) c.frame-item.is))
+    c.in_ok-push_str.ensures.bytes
 
 pub returns : goal.returns
 returns c =
     let trail = steps c.args.trail.now in
-    ap vec_items c.into-bytes.ensures.value
-    ∙ (trail_all (string_bytes c.in-ok-text.text) (string_bytes c.loop-frame.text) c.frames-frame-items.result.now trail c.loop-frame.frame-index c.loop-frame-test.false c.loop-frame.invariant c.frames-frame-items.ensures
-    ∙ ap (λ s. s ++ trail_text trail) c.in-ok-text.ensures.ok)
+    ap vec_items c.into_bytes.ensures.value
+    ∙ (trail_all (string_bytes c.in_ok-text.text) (string_bytes c.loop-frame.text) c.frames-frame-items.result.now trail c.loop-frame.frame-index c.loop-frame-test.false c.loop-frame.invariant c.frames-frame-items.ensures
+    ∙ ap (λ s. s ++ trail_text trail) c.in_ok-text.ensures.ok)

@@ -1,19 +1,19 @@
-use Rattle.std.proofs.Common.{sym, ◌∙◌, arith, rules}
+use Rattle.std.proofs.Common.{sym, ◌∙◌, arith}
 use Rattle.std.proofs.lemmas.List.{at_drop_all}
-use Rattle.protocol.proofs.Readings.{reading, starts, starts_not, ends, at_other, at_digit, at_large}
+use Rattle.protocol.proofs.Readings.{reading, ends, at_other, at_digit, at_large}
 use Rattle.protocol.proofs.decimal.number.Goals as goal
 
-pub returns-then-not-is-digit : goal.returns-then-not-is-digit
-returns-then-not-is-digit c =
-    sym (at_other _ _ _ c.loop-d-test.true (sym c.if-not-is-digit.ensures)) ∙ c.loop-d.invariant.1
+pub returns-then-not-is_digit : goal.returns-then-not-is_digit
+returns-then-not-is_digit c =
+    sym (at_other _ _ _ c.loop-d-test.true (sym c.if-not-is_digit.ensures)) ∙ c.loop-d.invariant.1
 
 pub returns-then-next : goal.returns-then-next
 returns-then-next c =
-    sym (at_large _ _ _ c.loop-d-test.true (sym c.if-not-is-digit.ensures) (omega arith)) ∙ c.loop-d.invariant.1
+    sym (at_large _ _ _ c.loop-d-test.true (sym c.if-not-is_digit.ensures) (omega arith)) ∙ c.loop-d.invariant.1
 
 pub loop-d-preserved : goal.loop-d-preserved
 loop-d-preserved c =
-    (omega arith, sym (at_digit _ _ _ c.loop-d-test.true (sym c.if-not-is-digit.ensures)) ∙ c.loop-d.invariant.1)
+    (omega arith, sym (at_digit _ _ _ c.loop-d-test.true (sym c.if-not-is_digit.ensures)) ∙ c.loop-d.invariant.1)
 
 pub returns : goal.returns
 returns c =

@@ -23,16 +23,16 @@ returns-in-Some g c =
     let four : length hs ≡ holds_max = search rules in
     let f = c.in-Some.ensures in
     let d = c.index-self-0.result in
-    let front = c.bring-front.new.holds in
-    let e : front ≡ to_front hs i d = c.bring-front.ensures d in
+    let front = c.bring_front.new.holds in
+    let e : front ≡ to_front hs i d = c.bring_front.ensures d in
     let b = (get_or front 0 d).block in
     let at : get_or hs (seek_hold hs k) d ≡ get_or front 0 d = ap (λ (j : ℕ). get_or hs j d) (sym f.0) ∙ sym (ap (λ (xs : List Hold). get_or xs 0 d) e) in
     record {
-      bound = omega (arith, c.copy-into.ensures.many, length-take b.len b.bytes, b.short);
+      bound = omega (arith, c.copy_into.ensures.many, length-take b.len b.bytes, b.short);
       step = λ m h.
           let l : seek_hold hs k < length hs = omega (arith, four, f.0, f.1.0) in
           let hit : shown m k ≡ Some (bytes_of b) = agree_hit m k hs d h.1 l ∙ ap (λ (x : Hold). Some (bytes_of x.block)) at in
-          let r = read_is m k c.args.into.now (bytes_of b) c.copy-into.new.into c.copy-into.result (f.1.1 m h.0) hit c.copy-into.ensures.many c.copy-into.ensures.after in
+          let r = read_is m k c.args.into.now (bytes_of b) c.copy_into.new.into c.copy_into.result (f.1.1 m h.0) hit c.copy_into.ensures.many c.copy_into.ensures.after in
           (r.0, (r.1, (h.0, subst (Agree m) (sym e) (agree_front m hs i d (omega (arith, four, f.1.0)) h.1))));
       spared = λ m h n e. refl;
       recent = ap keys_held e ∙ front_latest hs k four i d f.0 f.1.0;
@@ -49,8 +49,8 @@ returns-in-Some-new g c =
     let four : length hs ≡ holds_max = search rules in
     let d = c.index-self-0-in-Some-got.result in
     let x : Hold = record { key = Some c.args.key.now; block = b } in
-    let e : set c.bring-front-in-Some-got.new.holds 0 c.refill.new.self ≡ x ∷ (take j hs ++ drop (j + 1) hs) =
-    ap (λ (xs : List Hold). set xs 0 c.refill.new.self) (c.bring-front-in-Some-got.ensures d)
+    let e : set c.bring_front-in-Some-got.new.holds 0 c.refill.new.self ≡ x ∷ (take j hs ++ drop (j + 1) hs) =
+    ap (λ (xs : List Hold). set xs 0 c.refill.new.self) (c.bring_front-in-Some-got.ensures d)
     ∙ ap (λ (y : Hold). y ∷ (take j hs ++ drop (j + 1) hs)) c.refill.ensures in
     record {
       bound = rw c.in-Some-got.is at c.in-Ok.ensures.bound;
@@ -63,6 +63,6 @@ returns-in-Some-new g c =
           let part : take (n - 0) c.read.new.into ≡ bs = ap (λ (z : Bytes). take (n - 0) z) into' ∙ take_at bs _ (n - 0) (omega (arith, q.1.1.0)) in
           let says : shown m k ≡ Some (bytes_of b) = q.1.0 ∙ ap (λ (z : Bytes). Some z) (sym (c.in-Some-new.ensures ∙ part)) in
           (a, (f.1.0, (f.1.1, subst (Agree m) (sym e) (says, agree_others m hs j h.1))));
-      spared = λ m h l t. absurd (both_ways _ (c.in-default.ensures m h l) t);
+      spared = λ m h l t. absurd (both_ways _ (c.in_default.ensures m h l) t);
       recent = ap keys_held e ∙ latest hs k four j (omega (arith, c.min-i.ensures, c.seek.ensures));
     }

@@ -7,8 +7,8 @@ use Rattle.layers.proofs.Agreed.{agree_forgotten, agree_off_two, silent_forgotte
 use Rattle.layers.proofs.cache.ReadCacheDisk.rename.Goals as goal
 
 pub returns : goal.returns
-returns g c = (
-  (λ m h.
+returns g c = record {
+  value = λ m h.
       let a = key_of c.args.from.now in
       let b = key_of c.args.to.now in
       let hs = c.args.self.now.holds in
@@ -16,9 +16,9 @@ returns g c = (
         e.0,
         (
           e.1,
-          rw (c.forget-all-2.ensures, c.forget-all.ensures)
+          rw (c.forget_all-2.ensures, c.forget_all.ensures)
               (agree_off_two m (rename m a b).1 a b (map (forgotten b) (map (forgotten a) hs)) (silent_still a b _ (silent_forgotten a hs)) (silent_forgotten b _) (λ j n o. rename_other m j a b n o) (agree_forgotten m b _ (agree_forgotten m a hs h.1))),
         ),
-      )),
-  c.forget-all-2.ensures ∙ ap (map (forgotten (key_of c.args.to.now))) c.forget-all.ensures,
-)
+      );
+  holds_after = c.forget_all-2.ensures ∙ ap (map (forgotten (key_of c.args.to.now))) c.forget_all.ensures;
+}
