@@ -1,3 +1,4 @@
+pub mod Mirrored
 pub mod Agreed
 pub mod Front
 pub mod Latest

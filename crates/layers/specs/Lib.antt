@@ -1,4 +1,3 @@
 pub mod Capped
 pub mod Holds
 pub mod Recent
-pub mod Mirrored

@@ -1,7 +1,7 @@
 ghost use Rattle.std.specs.Prelude.{◌≡◌, ◌<◌, true, false, map, length, Some, None};
 ghost use Rattle.disk.specs.Keys.{key_of};
 ghost use Rattle.disk.specs.DiskState.{DiskState};
-ghost use Rattle.disk.specs.Calls.{dark, Within, read as ReadStep, read_into, store as store_step, rename as rename_step, remove as remove_step, settle as settle_step};
+ghost use Rattle.disk.specs.Calls.{dark, Within, read as read_step, read_into, store as store_step, rename as rename_step, remove as remove_step, settle as settle_step};
 ghost use Rattle.layers.specs.Holds.{holds_max, is_for, held, forgotten, seek_hold, Agree};
 ghost use Rattle.layers.specs.Recent.{Recent, to_front};
 
@@ -23,7 +23,7 @@ impl Hold {
     }
 
     fn refill(&mut self, key: &Key, block: Block)
-        ensures { self.new ≡ record { key = Some key.entry.now; block = block } }
+        ensures { self.new ≡ record { key = Some key.now; block = block } }
     {
         self.key = Some(*key);
         self.block = block;
@@ -119,7 +119,7 @@ impl<D: Disk> Disk for ReadCache<D> {
     /// A held key is answered without the disk below, which stays as it is, memory and all.
     fn read(&mut self, key: &Key, into: &mut [u8; BLOCK_MAX]) -> Result<Option<usize>, Refusal>
         ensures bound { Within result }
-        ensures step { (m : DiskState) → D.Disk.models self.old.below m × Agree m self.old.holds → (result ≡ ReadStep m (key_of key.now)) × ((into.new ≡ read_into m (key_of key.now) into.old) × (D.Disk.models self.new.below m × Agree m self.new.holds)) }
+        ensures step { (m : DiskState) → D.Disk.models self.old.below m × Agree m self.old.holds → (result ≡ read_step m (key_of key.now)) × ((into.new ≡ read_into m (key_of key.now) into.old) × (D.Disk.models self.new.below m × Agree m self.new.holds)) }
         ensures spared { (m : DiskState) → D.Disk.models self.old.below m → dark m ≡ false → held self.old.holds (key_of key.now) ≡ true → self.new.below ≡ self.old.below }
         ensures recent { Recent result (key_of key.now) self.old.holds self.new.holds }
     {

@@ -1,3 +1,5 @@
+#![tactic(auto)]
+
 mod cache;
 mod hold;
 mod quota;

@@ -3,9 +3,8 @@ ghost use Rattle.std.proofs.Common.{sym, subst};
 ghost use Rattle.disk.specs.Keys.{key_of};
 ghost use Rattle.disk.specs.DiskState.{DiskState, shown, count as used_count};
 ghost use Rattle.disk.specs.Calls.{dark};
-ghost use Rattle.layers.specs.Capped.{capped, Capped, over as over_cap};
+ghost use Rattle.layers.specs.Capped.{capped, capped_lawful, Capped, over as over_cap};
 ghost use Rattle.disk.specs.Lawful.{Lawful};
-ghost use Rattle.layers.specs.Mirrored.{capped_lawful};
 
 use disk::{Count, Disk, Key, Refusal};
 use names::limits::BLOCK_MAX;

@@ -1,4 +1,4 @@
-use Rattle.std.proofs.Common.{◌-◌, set, sym, ap, ◌∙◌}
+use Rattle.std.proofs.Common.{set, sym, ap, ◌∙◌}
 use Rattle.std.proofs.lemmas.List.{drop_all, take_all, append-nil}
 use Rattle.std.proofs.lemmas.List.Edits.{map_over_more}
 use Rattle.disk.specs.Keys.{key_of}

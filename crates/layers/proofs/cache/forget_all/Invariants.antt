@@ -1,4 +1,4 @@
-use Rattle.std.proofs.Common.{◌≡◌, ◌+◌, ◌++◌, map, take, drop}
+use Rattle.std.proofs.Common.{◌≡◌, ◌++◌, map, take, drop}
 use Rattle.disk.specs.Keys.{key_of}
 use Rattle.layers.specs.Holds.{forgotten}
 use Rattle.layers.proofs.cache.forget_all.Given as goal

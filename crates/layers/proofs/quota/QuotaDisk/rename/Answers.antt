@@ -5,7 +5,7 @@ use Rattle.disk.specs.Keys.{key_of, same_key}
 use Rattle.disk.specs.DiskState.{shown}
 use Rattle.disk.specs.Calls.{rename, dark}
 use Rattle.layers.specs.Capped.{over}
-use Rattle.layers.specs.Mirrored.{passes, refuses, rename_mirrors, rename_over, over_lit}
+use Rattle.layers.proofs.Mirrored.{passes, refuses, rename_mirrors, rename_over, over_lit}
 use Rattle.layers.proofs.quota.QuotaDisk.rename.Goals as goal
 use Rattle.layers.proofs.quota.QuotaDisk.rename.Goals.{then-eq-via-then-eq, then-eq-via-else-eq+then-not-over}
 

@@ -4,7 +4,7 @@ use Rattle.names.specs.Limits.{block_max}
 use Rattle.disk.specs.Keys.{key_of}
 use Rattle.disk.specs.Calls.{store}
 use Rattle.layers.specs.Capped.{over}
-use Rattle.layers.specs.Mirrored.{passes, store_mirrors}
+use Rattle.layers.proofs.Mirrored.{passes, store_mirrors}
 use Rattle.layers.proofs.quota.QuotaDisk.store.Goals as goal
 use Rattle.layers.proofs.quota.QuotaDisk.store.Goals.{else-bytes-le-BLOCK_MAX-via-then-bytes-le-BLOCK_MAX+else-over, else-bytes-le-BLOCK_MAX-via-else-bytes-le-BLOCK_MAX}
 

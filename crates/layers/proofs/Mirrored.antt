@@ -1,6 +1,5 @@
 -- A call on a capped state mirrors the call on the state below, where the cap is not what refuses.
-use Rattle.std.specs.Prelude.{◌≡◌, ℕ, ◌≤◌, min, Bool, true, false, not, ◌&&◌, length, is_some, Err, nat_le, nat_lt, refl}
-use Rattle.std.proofs.Common.{sym, ap, subst, ◌∙◌, arith}
+use Rattle.std.proofs.Common.{◌≡◌, ℕ, ◌≤◌, min, Bool, true, false, not, ◌&&◌, length, is_some, Err, nat_le, nat_lt, sym, refl, ap, ◌∙◌, subst, arith}
 use Rattle.std.proofs.lemmas.Bool.Decides.{nat_tests}
 use Rattle.std.proofs.lemmas.Bool.{not-false, le-ltb}
 use Rattle.names.specs.Limits.{block_max}
@@ -9,7 +8,6 @@ use Rattle.disk.specs.declared.refusal.Refusal.TheVariants.{Dark, Long, Full, Sa
 use Rattle.disk.specs.Keys.{KeyId, same_key}
 use Rattle.disk.specs.DiskState.{DiskState, shown, used_at, count}
 use Rattle.disk.specs.Calls.{Answer, unless, dark, full, store, rename, remove, settle}
-use Rattle.disk.specs.Lawful.{Lawful}
 use Rattle.disk.proofs.Unless.{unless_alike}
 use Rattle.layers.specs.Capped.{capped, Capped, over}
 
@@ -66,9 +64,6 @@ module _ (cap : ℕ) (n : DiskState) where
   rename_over a b s e o =
       let f = full_over (dark n) (used_at n b) n.limit cap (count n) o in
       rw (f.0, s, e, f.1) refl
-
-  pub capped_lawful : Lawful n → Lawful (capped cap n)
-  capped_lawful l = record { once = l.once; listed = l.listed; few = omega (arith, l.few); stays = l.stays; small = l.small }
 
 -- what a layer owes of a call: the answer, and a state that its own is worked out from
 abbrev pub Owed : (DiskState → Type 0) → ℕ → Answer → Answer × DiskState → Type 0
