@@ -1,5 +1,5 @@
 -- The words of a line: what single blanks divide.
-use Rattle.std.specs.Prelude.{ℕ, suc, cond, List, [], ◌∷◌, Some, None, Option, ◌==◌}
+use Rattle.std.specs.Prelude.{ℕ, suc, cond, [], ◌∷◌, Some, None, Option, ◌==◌}
 use Rattle.std.specs.Borrow.{Bor}
 use Rattle.names.specs.Names.{Bytes}
 use Rattle.disk_shell.specs.declared.words.Words.{Words}

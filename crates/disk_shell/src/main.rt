@@ -1,4 +1,5 @@
 //! A shell to try disks in: a line starts a stack of layers, the lines after it are calls of it, each answered with one line.
+#![tactic(auto)]
 
 mod command;
 mod stack;

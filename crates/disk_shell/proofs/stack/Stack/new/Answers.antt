@@ -21,23 +21,23 @@ returns-in-Quota c =
     let b = blank (places_in c.args.bytes) c.args.charge in
     let d = c.new-in-Quota.result in
     started (Quota d) _ _ c.args.bytes c.args.charge c.in-Quota.is
-    (capped-blank (λ m. Models (Quota d) m) c.in-Quota.q b (c.new-in-Quota.ensures b c.in-ok-base.ensures))
+    (capped-blank (λ m. Models (Quota d) m) c.in-Quota.q b (c.new-in-Quota.ensures b c.in_ok-base.ensures))
 
 pub returns-in-Cache : goal.returns-in-Cache
 returns-in-Cache c =
     let b = blank (places_in c.args.bytes) c.args.charge in
-    started (Cache c.new-in-Cache.result) _ _ c.args.bytes c.args.charge c.in-Cache.is (c.new-in-Cache.ensures b c.in-ok-base.ensures)
+    started (Cache c.new-in-Cache.result) _ _ c.args.bytes c.args.charge c.in-Cache.is (c.new-in-Cache.ensures b c.in_ok-base.ensures)
 
 pub returns-in-QuotaOverCache : goal.returns-in-QuotaOverCache
 returns-in-QuotaOverCache c =
     let b = blank (places_in c.args.bytes) c.args.charge in
     let d = c.new-in-QuotaOverCache-2.result in
     started (QuotaOverCache d) _ _ c.args.bytes c.args.charge c.in-QuotaOverCache.is
-    (capped-blank (λ m. Models (QuotaOverCache d) m) c.in-QuotaOverCache.q b (c.new-in-QuotaOverCache-2.ensures b (c.new-in-QuotaOverCache.ensures b c.in-ok-base.ensures)))
+    (capped-blank (λ m. Models (QuotaOverCache d) m) c.in-QuotaOverCache.q b (c.new-in-QuotaOverCache-2.ensures b (c.new-in-QuotaOverCache.ensures b c.in_ok-base.ensures)))
 
 pub returns-in-CacheOverQuota : goal.returns-in-CacheOverQuota
 returns-in-CacheOverQuota c =
     let b = blank (places_in c.args.bytes) c.args.charge in
     let d = c.new-in-CacheOverQuota-2.result in
     started (CacheOverQuota d) _ _ c.args.bytes c.args.charge c.in-CacheOverQuota.is
-    (capped-blank (λ m. Models (CacheOverQuota d) m) c.in-CacheOverQuota.q b (c.new-in-CacheOverQuota-2.ensures _ (c.new-in-CacheOverQuota.ensures b c.in-ok-base.ensures)))
+    (capped-blank (λ m. Models (CacheOverQuota d) m) c.in-CacheOverQuota.q b (c.new-in-CacheOverQuota-2.ensures _ (c.new-in-CacheOverQuota.ensures b c.in_ok-base.ensures)))

@@ -1,4 +1,3 @@
-use Rattle.std.proofs.Common.{arith}
 use Rattle.disk_shell.proofs.Cuts.{cut_word, cut-rest, cut_end}
 use Rattle.disk_shell.proofs.words.methods.cut.Goals as goal
 

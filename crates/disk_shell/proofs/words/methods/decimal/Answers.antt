@@ -1,8 +1,8 @@
-use Rattle.std.proofs.Common.{◌≡◌, ◌+◌, ◌-◌, ◌*◌, true, false, get_or, drop, sym, ◌∙◌, arith, rules}
+use Rattle.std.proofs.Common.{◌≡◌, ◌+◌, ◌-◌, ◌*◌, true, false, get_or, drop, sym, ◌∙◌, arith}
 use Rattle.std.proofs.lemmas.List.{at_drop_all}
 use Rattle.names.specs.Names.{Bytes}
 use Rattle.disk_shell.specs.Decimals.{digit, digits, value}
-use Rattle.disk_shell.proofs.Numbers.{value-step, digits_step, value_le, digit_least, not_digits, too_large, read_all}
+use Rattle.disk_shell.proofs.Numbers.{value-step, digits_step, value_le, not_digits, too_large, read_all}
 use Rattle.disk_shell.proofs.words.methods.decimal.Goals as goal
 
 pub returns-then-not-is_digit : goal.returns-then-not-is_digit
