@@ -1,5 +1,5 @@
 -- What the builder's calls answer, and the state of the disk after them.
-use Rattle.std.specs.Prelude.{ℕ, Bool, cond, not, List, ◌++◌, length, drop, is_some, Some, None, Ok, Err, Result, nat_le, nat_lt}
+use Rattle.std.specs.Prelude.{ℕ, cond, not, ◌++◌, length, drop, is_some, Some, None, Ok, Err, Result, nat_le, nat_lt}
 use Rattle.names.specs.Limits.{page_max}
 use Rattle.names.specs.Names.{Bytes, is_name}
 use Rattle.commit.specs.declared.cause.Cause.{Cause}

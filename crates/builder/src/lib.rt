@@ -1,4 +1,5 @@
 //! The builder's calls on a disk.
+#![tactic(auto)]
 
 mod edits;
 mod pages;

@@ -1,5 +1,5 @@
 -- Stamps in four bytes, and the bytes behind them.
-use Rattle.std.proofs.Common.{◌≡◌, ℕ, suc, ◌+◌, ◌-◌, ◌<◌, ◌≤◌, Bool, true, false, eqb, List, [], ◌∷◌, ◌++◌, length, get_or, take, drop, Some, None, Ok, Err, Option, Result, sym, refl, ap, ◌∙◌, subst, arith}
+use Rattle.std.proofs.Common.{◌≡◌, ℕ, suc, ◌-◌, ◌<◌, ◌≤◌, Bool, true, false, eqb, [], ◌∷◌, ◌++◌, length, take, drop, Some, Ok, Err, Option, Result, sym, refl, ap, ◌∙◌, arith}
 use Rattle.std.proofs.lemmas.Bool.{eq-eqb}
 use Rattle.std.proofs.lemmas.List.{get_or-take, take_at}
 use Rattle.std.proofs.lemmas.Slice.{between_is}
@@ -8,7 +8,7 @@ use Rattle.record.specs.Read.{number_of_four}
 use Rattle.disk.specs.declared.refusal.Refusal.{Refusal}
 use Rattle.disk.specs.declared.refusal.Refusal.TheVariants.{Dark}
 use Rattle.disk.specs.Keys.{KeyId, stamp_key}
-use Rattle.disk.specs.DiskState.{Content, DiskState, shown}
+use Rattle.disk.specs.DiskState.{DiskState, shown}
 use Rattle.disk.specs.Calls.{dark, read, read_into}
 use Rattle.disk.proofs.Shown.{read_gave}
 use Rattle.commit.specs.Draws.{last_stamp}

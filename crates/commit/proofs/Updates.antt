@@ -1,16 +1,15 @@
 -- A commit is one change of its key that a cut leaves undone or done.
-use Rattle.std.proofs.Common.{◌≡◌, ℕ, ◌+◌, ◌-◌, ◌≤◌, Bool, true, false, cond, eqb, ◌⊎◌, length, is_some, Some, None, Ok, Err, Option, Result, sym, refl, ap, ◌∙◌, inl, inr, arith}
+use Rattle.std.proofs.Common.{◌≡◌, ℕ, ◌≤◌, true, false, length, is_some, Some, None, Ok, Err, sym, refl, ap, ◌∙◌, inl, inr, arith}
 use Rattle.std.proofs.lemmas.Bool.{both_ways, cond-true, cond-false, le-ltb, eqb-false}
 use Rattle.names.specs.Limits.{block_max}
 use Rattle.names.specs.Names.{Bytes}
-use Rattle.disk.specs.declared.refusal.Refusal.{Refusal}
 use Rattle.disk.specs.declared.refusal.Refusal.TheVariants.{Dark, Full}
 use Rattle.disk.specs.Keys.{KeyId, same_key, draft_key}
 use Rattle.disk.specs.DiskState.{Content, Mark, firm, either, loose, is_firm, Cell, DiskState, shown}
 use Rattle.disk.specs.Calls.{Answer, dark, spent, put, marked, renamed, removed, settled, rename, remove, settle}
 use Rattle.disk.proofs.Lists.{same_key_refl}
 use Rattle.commit.specs.Commits.{after, abandon, placed, finish, commit}
-use Rattle.commit.specs.Updates.{AllFirm, Calm, cell, Fate, Update}
+use Rattle.commit.specs.Updates.{AllFirm, Calm, cell, Update}
 use Rattle.commit.proofs.Ways.{settle_ways, store_ways, remove_ways, rename_ways}
 
 dark-calm : (m : DiskState) → dark m ≡ true → Calm m

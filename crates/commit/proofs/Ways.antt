@@ -1,5 +1,5 @@
 -- The ways that a call of a disk may end.
-use Rattle.std.proofs.Common.{◌≡◌, Bool, true, false, not, ltb, length, is_some, Some, Ok, Err, refl}
+use Rattle.std.proofs.Common.{◌≡◌, Bool, true, false, not, ltb, length, is_some, Some, Err, refl}
 use Rattle.std.proofs.lemmas.Bool.{not-true}
 use Rattle.names.specs.Limits.{block_max}
 use Rattle.names.specs.Names.{Bytes}

@@ -1,6 +1,6 @@
 -- What it is to commit bytes to a key: they are stored in the draft, settled, and the draft is renamed to the key, which
 -- is settled too.
-use Rattle.std.specs.Prelude.{Ok, Err, Result}
+use Rattle.std.specs.Prelude.{Ok, Err}
 use Rattle.names.specs.Names.{Bytes}
 use Rattle.disk.specs.declared.refusal.Refusal.TheVariants.{Dark, Long, Full, Same, Missing}
 use Rattle.disk.specs.Keys.{KeyId, draft_key}

@@ -6,7 +6,7 @@ use Rattle.disk.specs.declared.refusal.Refusal.TheVariants.{Dark}
 use Rattle.disk.specs.Keys.{KeyId}
 use Rattle.disk.specs.DiskState.{DiskState, shown}
 use Rattle.disk.specs.Calls.{dark}
-use Rattle.commit.specs.Stamps.{Held, unstamped, held}
+use Rattle.commit.specs.Stamps.{Held, unstamped}
 use Rattle.commit.specs.declared.stamped.Stamped.{Stamped}
 use Rattle.commit.specs.declared.stamped.Found.{Found}
 use Rattle.commit.specs.declared.stamped.Found.TheVariants.{Nothing, Short, Whole}

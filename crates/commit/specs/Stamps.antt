@@ -1,5 +1,5 @@
 -- A stamp stands in four bytes, the lowest first: in front of a laid file or a made page, and by itself under the stamp key.
-use Rattle.std.specs.Prelude.{ℕ, ◌+◌, Bool, cond, List, ◌++◌, length, drop, Some, None, Option, ◌==◌, nat_le}
+use Rattle.std.specs.Prelude.{ℕ, cond, ◌++◌, length, drop, Some, None, Option, ◌==◌, nat_le}
 use Rattle.names.specs.Names.{Bytes}
 use Rattle.record.specs.Written.{four}
 use Rattle.record.specs.Read.{number_of_four}

@@ -1,4 +1,5 @@
 //! Drafts, commits and stamps.
+#![tactic(auto)]
 
 mod cause;
 mod draft;

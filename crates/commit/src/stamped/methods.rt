@@ -51,6 +51,7 @@ impl Stamped {
     pub fn content(&self) -> &[u8]
         ensures value { result.now ≡ (held_in self.now).bytes }
         ensures bound { length result.now ≤ page_max }
+        ensures whole { 4 ≤ length (bytes_of self.now) }
     {
         &self.bytes[STAMP_SIZE..self.len]
     }

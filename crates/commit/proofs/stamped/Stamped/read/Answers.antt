@@ -4,8 +4,8 @@ use Rattle.disk.specs.Calls.{read}
 use Rattle.commit.proofs.Stamps.{read-lit, read_front}
 use Rattle.commit.proofs.stamped.Stamped.read.Goals as goal
 
-pub returns-else-len-lt-STAMP-SIZE : goal.returns-else-len-lt-STAMP-SIZE
-returns-else-len-lt-STAMP-SIZE g c = λ m h.
+pub returns-else-len-lt-STAMP_SIZE : goal.returns-else-len-lt-STAMP_SIZE
+returns-else-len-lt-STAMP_SIZE g c = λ m h.
     let s = c.in-Ok-Some.ensures.step m h in
     let e = s.0 in
     let i = c.in-Ok-Some.len-is in
