@@ -1,8 +1,7 @@
 ghost use Rattle.std.specs.Prelude.{◌≡◌};
 ghost use Rattle.disk.specs.Keys.{same_key, kind_of, name_of, key_of};
-ghost use Rattle.std.specs.Cmp.Rules.{comparing};
-ghost use Rattle.std.proofs.Common.{rules};
-ghost use Rattle.std.specs.Cmp as Keys;
+ghost use Rattle.std.specs.Cmp.{partial_equiv_from_equiv, and_equiv, on_equiv, nat_eq_equiv};
+ghost use Rattle.std.specs.Cmp.Lexicographic.{on_texts_equal};
 
 use names::Name;
 
@@ -44,7 +43,7 @@ impl Key {
 impl PartialEq for Key {
     ghost eq = { λ a b. same_key (key_of a) (key_of b) };
 
-    ghost laws = { Keys.partial_equiv_from_equiv (Prim.search (comparing, rules)) };
+    ghost laws = { partial_equiv_from_equiv (and_equiv (on_equiv kind_of nat_eq_equiv) (on_texts_equal name_of)) };
 
     fn eq(&self, other: &Key) -> bool {
         self.kind() == other.kind() && self.name() == other.name()
@@ -52,5 +51,5 @@ impl PartialEq for Key {
 }
 
 impl Eq for Key {
-    ghost laws = { Prim.search (comparing, rules) };
+    ghost laws = { and_equiv (on_equiv kind_of nat_eq_equiv) (on_texts_equal name_of) };
 }

@@ -1,4 +1,5 @@
--- The limits of the subject, each in one place of the definitions. `src/limits.rt` has the same numbers for the code.
+-- The limits of the subject, each in one place of the definitions. `src/limits.rt` has the same numbers for the code, but for
+-- the charge, which is any number of 16 bits.
 use Rattle.std.specs.Prelude.{ℕ}
 
 -- the bytes of a name

@@ -1,10 +1,10 @@
 ghost use Rattle.std.specs.Prelude.{◌≡◌, true, false, Some as Found, codes, MatchOption};
 ghost use Rattle.names.specs.Names.{is_name as lawful};
 ghost use Rattle.names.specs.Spelled.{spelled};
-ghost use Rattle.names.specs.Order.{same_name, name_order};
-ghost use Rattle.std.specs.Cmp.Rules.{comparing};
-ghost use Rattle.std.proofs.Common.{rules, arith};
-ghost use Rattle.std.specs.Cmp as Keys;
+ghost use Rattle.names.specs.Order.{same_name, name_order, names_ordered};
+ghost use Rattle.std.specs.Cmp.{partial_equiv_from_equiv, on_po};
+ghost use Rattle.std.specs.Cmp.Lexicographic.{on_texts_equal, texts_po, texts_ties};
+ghost use Rattle.std.proofs.Common.{refl};
 
 use super::Name;
 use crate::judge::is_name;
@@ -50,7 +50,7 @@ impl Name {
 impl PartialEq for Name {
     ghost eq = { λ a b. same_name a b };
 
-    ghost laws = { Keys.partial_equiv_from_equiv (first_of (Prim.search (comparing, rules), Prim.grind (arith, Self.row.coded.inj))) };
+    ghost laws = { partial_equiv_from_equiv (on_texts_equal spelled) };
 
     fn eq(&self, other: &Name) -> bool {
         self.as_bytes() == other.as_bytes()
@@ -58,13 +58,13 @@ impl PartialEq for Name {
 }
 
 impl Eq for Name {
-    ghost laws = { first_of (Prim.search (comparing, rules), Prim.grind (arith, Self.row.coded.inj)) };
+    ghost laws = { on_texts_equal spelled };
 }
 
 impl PartialOrd for Name {
     ghost partial_cmp = { λ a b. Found (name_order a b) };
 
-    ghost laws = { first_of (Prim.search (comparing, rules), Prim.grind (arith, Self.row.coded.inj)) };
+    ghost laws = { on_po spelled texts_po };
 
     fn partial_cmp(&self, other: &Name) -> Option<Ordering> {
         Some(self.cmp(other))
@@ -74,11 +74,11 @@ impl PartialOrd for Name {
 impl Ord for Name {
     ghost cmp = { λ a b. name_order a b };
 
-    ghost total = { first_of (Prim.search (comparing, rules), Prim.grind (arith, Self.row.coded.inj)) };
+    ghost total = { names_ordered };
 
-    ghost matches_partial_cmp = { first_of (Prim.search (comparing, rules), Prim.grind (arith, Self.row.coded.inj)) };
+    ghost matches_partial_cmp = { λ a b. refl };
 
-    ghost matches_eq = { first_of (Prim.search (comparing, rules), Prim.grind (arith, Self.row.coded.inj)) };
+    ghost matches_eq = { λ a b. texts_ties (spelled a) (spelled b) };
 
     fn cmp(&self, other: &Name) -> Ordering {
         self.as_bytes().cmp(&other.as_bytes())

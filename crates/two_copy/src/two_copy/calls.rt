@@ -5,7 +5,6 @@ ghost use Rattle.disk.specs.Calls.{Within, read as read_step, read_into, store a
 ghost use Rattle.disk.specs.Restart.{Restarted};
 ghost use Rattle.two_copy.specs.Places.{places_in, copies, found, fits, used_place, refresh, seek as seek_place, slot as slot_place};
 ghost use Rattle.two_copy.specs.Described.{Describes, settled_copy, present_copy};
-ghost use Rattle.std.proofs.Common.{rules, arith};
 
 use super::TwoCopy;
 use super::search::{idle_places, marks, refresh_all, seek, slot};
@@ -92,7 +91,7 @@ impl TwoCopy {
 impl Disk for TwoCopy {
     ghost models = { Describes };
 
-    ghost lawful = { first_of (Prim.search rules, Prim.grind (arith, Self.row.coded.inj)) };
+    ghost lawful = { λ s m h. h.lawful };
 
     fn count(&self) -> Count {
         Count {
