@@ -1,4 +1,7 @@
 ghost use Rattle.std.specs.Prelude.{◌≡◌};
+ghost use Rattle.std.specs.List.{find as find_first};
+ghost use Rattle.std.specs.Option.{option_copied};
+ghost use Rattle.std.specs.Str.{bytes_eq};
 ghost use Rattle.script.specs.Lines.{after};
 ghost use Rattle.script.specs.Words.{table, find, idle, spelled_by};
 
@@ -72,26 +75,25 @@ const WORDS: [Row; 5] = [
     },
 ];
 
+/// The row of the word that these bytes spell.
+fn row_of<'a>(rows: &'a [Row], text: &[u8]) -> Option<&'a Row>
+    ensures { option_copied result ≡ find_first (λ r. bytes_eq r.text.now text.now) rows.now }
+{
+    rows.iter().find(|row| row.text == text)
+}
+
 /// The word that these bytes spell, with the form of its rest.
 fn find_word(text: &[u8]) -> Spelled
     ensures { result ≡ find table text.now }
 {
-    for row in &WORDS {
-        if row.text == text {
-            return Spelled::Known(row.word, row.rest);
-        }
-    }
-    Spelled::Unknown
+    row_of(&WORDS, text).map_or(Spelled::Unknown, |row| Spelled::Known(row.word, row.rest))
 }
 
 /// Does this line do nothing?
 fn is_idle(line: &[u8]) -> bool
     ensures { result ≡ idle line.now }
 {
-    match line {
-        [] => true,
-        [first, ..] => *first == b'#',
-    }
+    matches!(line, [] | [b'#', ..])
 }
 
 /// The word that a line begins with, and what follows its blank.
