@@ -1,9 +1,13 @@
 #![tactic(auto)]
 
-pub mod fault;
+mod cause;
+mod fault;
 mod frame;
+mod script_fault;
 pub mod trail;
 
-pub use fault::ScriptFault;
+pub use cause::Cause;
+pub use fault::{Failed, Fault};
 pub use frame::Frame;
+pub use script_fault::ScriptFault;
 pub use trail::Trail;
