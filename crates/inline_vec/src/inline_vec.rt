@@ -78,7 +78,7 @@ impl<T: Copy, const CAP: usize> InlineVec<T, CAP> {
         ensures value { result ≡ length self.now.items }
         ensures fits { result ≤ CAP }
     {
-        self.len
+        self.as_slice().len()
     }
 
     /// Whether there is no room left.

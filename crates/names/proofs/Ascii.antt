@@ -1,5 +1,6 @@
 -- The bytes of a name are ASCII, and so a text.
-use Rattle.std.proofs.Common.{◌≡◌, ℕ, ◌<◌, true, false, List, [], ◌∷◌, slice_index, ◌&&◌, ◌||◌, not, ◌==◌, nat_le, suc, length, arith, rules, ¬, Result, Ok, Err, is_ok, ⊥, refl, sym, ◌∙◌, MatchResult, IsOk, ◌≤◌, ◌↔◌}
+use Rattle.std.proofs.Common.{◌≡◌, ℕ, ◌<◌, true, false, List, [], ◌∷◌, ◌&&◌, ◌||◌, not, arith, rules, Result, Ok, Err, is_ok, inl, inr, MatchResult}
+use Prim.Native.Nat.{zero, suc}
 use Rattle.std.proofs.lemmas.Bool.{and_parts, cases_Bool}
 use Rattle.std.proofs.lemmas.Str.{IsUtf8-from_ascii}
 use Rattle.std.specs.Str.{IsAscii, IsUtf8}
@@ -21,7 +22,7 @@ name_is_text s h =
     IsUtf8-from_ascii s (allowed_ascii s (and_parts (allowed s) _ q.1).0)
 
 -- bytes that are no text are no name
-pub refused_text : {X E : Type 0} {P : X → Type 0} {Q : E → Type 0} (r : Result X E) (s : List ℕ) → is_ok r ≡ false
+pub refused_text : {X E : Type 0} (P : X → Type 0) (Q : E → Type 0) (r : Result X E) (s : List ℕ) → is_ok r ≡ false
     → MatchResult r P (λ e. (¬ (IsUtf8 s)) × Q e) → is_name s ≡ false
-refused_text (Ok x) s h m = search rules
-refused_text (Err e) s h m = elim (cases_Bool (is_name s)) [ inl h ↦ search (m.0 (name_is_text s h)) | inr h ↦ h ]
+refused_text P Q (Ok x) s h m = search rules
+refused_text P Q (Err e) s h m = elim (cases_Bool (is_name s)) [ inl h ↦ search (m.0 (name_is_text s h)) | inr h ↦ h ]

@@ -46,4 +46,3 @@ lawful-short s h = leb-true _ _ (and_parts (leb 1 (length s)) _ (and_parts _ _ h
 pub too_long : (s : List ℕ) → 24 < length s → is_name s ≡ false
 unfolding is_name
 too_long s h = let e = lt-leb (length s) 24 h in let k = le-leb 1 (length s) (omega arith) in simp (e, k)
-

@@ -22,7 +22,11 @@ impl Name {
         ensures { MatchOption result (lawful bytes.now ≡ false) (λ n. spelled n ≡ bytes.now) }
     {
         let text = ArrayString::from(str::from_utf8(bytes).ok()?).ok()?;
-        if is_name(bytes) { Some(Name { text }) } else { None }
+        if is_name(bytes) {
+            Some(Name { text })
+        } else {
+            None
+        }
     }
 
     /// The bytes of the name.

@@ -1,4 +1,4 @@
-use Rattle.std.proofs.Common.{refl, ap, ◌∙◌, ◌++◌, [], ◌∷◌, rules, arith}
+use Rattle.std.proofs.Common.{refl, ap, ◌∙◌, ◌++◌, [], ◌∷◌, arith}
 use Rattle.names.specs.Names.{is_name}
 use Rattle.names.proofs.name.Name.filler.Goals as goal
 
