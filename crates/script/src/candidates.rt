@@ -126,6 +126,7 @@ impl Iterator for Candidates {
     ghost remaining = { item_count left };
 
     /// The next candidate, if there is one more.
+    // No `or_else`: of a closure that changes what it captures, the proof does not know what it leaves.
     fn next(&mut self) -> Option<Candidate> {
         if let Some(own) = self.own.take() {
             return Some(own);

@@ -8,7 +8,7 @@ ghost use Rattle.script.specs.Words.{table, find, idle, spelled_by};
 use crate::lines::cut;
 
 /// The words of a script.
-#[derive(Clone, Copy)]
+#[derive(Clone, Copy, PartialEq, Eq, Debug)]
 pub enum Word {
     Need,
     IfCreate,
@@ -18,14 +18,15 @@ pub enum Word {
 }
 
 /// The form of what follows a word.
-#[derive(Clone, Copy)]
+#[derive(Clone, Copy, PartialEq, Eq, Debug)]
 pub enum Rest {
     Name,
     Text,
 }
 
 /// What a line of a script begins with.
-#[derive(Clone, Copy)]
+// Three ways and no Result: an unknown word in a skipped line is no fault, so no `?` may stand before the mode is matched.
+#[derive(Clone, Copy, PartialEq, Eq, Debug)]
 pub enum Spelled {
     Nothing,
     Unknown,
@@ -33,7 +34,7 @@ pub enum Spelled {
 }
 
 /// Whether the next line of a script is looked at.
-#[derive(Clone, Copy)]
+#[derive(Clone, Copy, PartialEq, Eq, Debug)]
 pub enum Mode {
     Running,
     Skipping,

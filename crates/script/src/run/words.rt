@@ -17,21 +17,14 @@ use faults::ScriptFault;
 use names::Name;
 
 impl Work {
-    /// Adds to the page.
-    fn add(&mut self, text: &[u8]) -> Result<Option<Question>, ScriptFault>
-        ensures { Plays self.old self.new result (adding (content self.old.page) text.now) }
-    {
-        self.page.append(text)?;
-        Ok(None)
-    }
-
     /// `say`: the text and a line's end go onto the page.
     fn say(&mut self, text: Template) -> Result<Option<Question>, ScriptFault>
         ensures { Plays self.old self.new result (adding (content self.old.page) (meant text.entry ++ (10 ∷ []))) }
     {
         let mut line = Page::filled(text).ok_or(ScriptFault::PageTooLong)?;
         line.append(b"\n")?;
-        self.add(line.as_bytes())
+        self.page.append(line.as_bytes())?;
+        Ok(None)
     }
 
     /// `copy`: the bytes of a name that was needed go onto the page.
