@@ -11,6 +11,7 @@ fn has_lawful_start(bytes: &[u8]) -> bool
 }
 
 /// The number up to `most` that the bytes write in decimal without a leading zero, if they write one.
+#[tactic(auto, using(crate::proofs::Readings::read, crate::proofs::Readings::unread))]
 pub fn decimal(bytes: &[u8], most: u32) -> Option<u32>
     ensures { result ≡ decimal_up_to most bytes.now }
 {
