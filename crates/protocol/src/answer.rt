@@ -30,9 +30,7 @@ fn page_text(heap: Global, page: &[u8]) -> Result<Vec<u8>, AllocError>
     ensures { IfOk result (λ v. v.items ≡ codes "page " ++ page_text page.now) }
 {
     let mut text = Vec::from_slice(heap, b"page ")?;
-    for b in page {
-        text.push(substitute(*b, NEWLINE, BAR))?;
-    }
+    text.extend(page.iter().map(|b| substitute(*b, NEWLINE, BAR)))?;
     Ok(text)
 }
 
