@@ -1,4 +1,4 @@
-ghost use Rattle.std.specs.Prelude.{◌≡◌, [], ◌∷◌, ◌++◌, length, take, nat_le};
+ghost use Rattle.std.specs.Prelude.{◌≡◌, [], ◌∷◌, ◌++◌, map, length, take, nat_le};
 ghost use Rattle.names.specs.Limits.{depth_max};
 ghost use Rattle.names.specs.Spelled.{spelled};
 ghost use Rattle.clean.specs.Evaluate.{member};
@@ -6,6 +6,13 @@ ghost use Rattle.clean.specs.Evaluate.{member};
 use inline_vec::InlineVec;
 use names::Name;
 use names::limits::DEPTH_MAX;
+
+/// Is the name among these?
+fn is_among(targets: &[Name], name: &Name) -> bool
+    ensures { result ≡ member (spelled name.now) (map spelled targets.now) }
+{
+    targets.contains(name)
+}
 
 /// The open targets, outermost first.
 #[derive(Clone, Copy)]
@@ -45,6 +52,6 @@ impl Chain {
     pub fn contains(&self, name: &Name) -> bool
         ensures { result ≡ member (spelled name.now) (opened self.now) }
     {
-        self.targets.as_slice().contains(name)
+        is_among(self.targets.as_slice(), name)
     }
 }
