@@ -1,15 +1,14 @@
-ghost use Rattle.std.specs.Prelude.{◌≡◌, ◌≤◌, length};
+ghost use Rattle.std.specs.Prelude.{◌≤◌, length};
 ghost use Rattle.record.specs.Limits.{record_max};
 
 use crate::limits::RECORD_MAX;
+use inline_vec::InlineVec;
 
 pub mod methods;
 
-/// Room for the longest record, of which the first `len` bytes are filled.
+/// The bytes of a record that is being written, or of a part of it.
 #[derive(Clone, Copy)]
 pub struct Buffer {
-    bytes: [u8; RECORD_MAX],
-    len: usize,
-    ghost sized: { length bytes ≡ record_max },
-    ghost short: { len ≤ record_max },
+    bytes: InlineVec<u8, RECORD_MAX>,
+    ghost short: { length bytes.items ≤ record_max },
 }

@@ -30,9 +30,7 @@ impl Iterator for Entries<'_> {
     ghost remaining = { λ s. at_most (s.view.count - s.next) };
 
     fn next(&mut self) -> Option<Entry> {
-        let Some(entry) = self.view.entry(self.next) else {
-            return None;
-        };
+        let entry = self.view.entry(self.next)?;
         self.next += 1;
         Some(entry)
     }

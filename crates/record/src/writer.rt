@@ -1,4 +1,4 @@
-ghost use Rattle.std.specs.Prelude.{◌≡◌, ◌*◌, ◌≤◌, true, length, take};
+ghost use Rattle.std.specs.Prelude.{◌≡◌, ◌*◌, ◌≤◌, true, length};
 ghost use Rattle.names.specs.Limits.{entries_max};
 ghost use Rattle.record.specs.Limits.{body_max};
 ghost use Rattle.record.specs.Chain.{chained};
@@ -6,6 +6,7 @@ ghost use Rattle.record.specs.Filled.{filled};
 ghost use Rattle.record.specs.Read.{parts, are_bodies};
 
 use crate::buffer::Buffer;
+use inline_vec::InlineVec;
 use names::limits::ENTRIES_MAX;
 
 pub mod methods;
@@ -14,11 +15,9 @@ pub mod methods;
 #[derive(Clone, Copy)]
 pub struct RecordWriter {
     bodies: Buffer,
-    pairs: [(u16, u16); ENTRIES_MAX],
-    count: usize,
-    ghost sized: { length pairs ≡ entries_max },
-    ghost few: { count ≤ entries_max },
-    ghost short: { bodies.len ≤ body_max * count },
-    ghost ordered: { chained 0 (take count pairs) bodies.len ≡ true },
-    ghost lawful: { are_bodies (parts (take count pairs) (filled bodies)) ≡ true },
+    pairs: InlineVec<(u16, u16), ENTRIES_MAX>,
+    ghost few: { length pairs.items ≤ entries_max },
+    ghost short: { length (filled bodies) ≤ body_max * length pairs.items },
+    ghost ordered: { chained 0 pairs.items (length (filled bodies)) ≡ true },
+    ghost lawful: { are_bodies (parts pairs.items (filled bodies)) ≡ true },
 }

@@ -10,28 +10,17 @@ use crate::buffer::Buffer;
 use crate::entry::Entry;
 use crate::finished::Record;
 use crate::limits::{HEADER_SIZE, PAIR_SIZE};
-use names::limits::ENTRIES_MAX;
-
-/// A record has no room for a 29th entry.
-#[derive(Clone, Copy)]
-pub struct Full;
-
-// Whether a record with so many entries has room for one more.
-fn has_room(count: usize) -> bool
-    ensures { result ≡ nat_lt count entries_max }
-{
-    count < ENTRIES_MAX
-}
+use inline_vec::{Full, InlineVec};
 
 impl RecordWriter {
     /// A record with no entry yet.
+    #[tactic(auto, unfolding(crate::specs::Held::entries_of))]
     pub fn new() -> RecordWriter
         ensures { entries_of result ≡ [] }
     {
         RecordWriter {
             bodies: Buffer::new(),
-            pairs: [(0, 0); ENTRIES_MAX],
-            count: 0,
+            pairs: InlineVec::new((0, 0)),
         }
     }
 
@@ -40,23 +29,21 @@ impl RecordWriter {
         ensures test { is_ok result ≡ nat_lt (length (entries_of self.old)) entries_max }
         ensures cases { MatchResult result (λ _. entries_of self.new ≡ entries_of self.old ++ value_of entry.now ∷ []) (λ _. self.new ≡ self.old) }
     {
-        let i = self.count;
-        if !has_room(i) {
+        if self.is_full() {
             return Err(Full);
         }
         let at = self.bodies.len();
         self.bodies.append_body(entry);
         let len = self.bodies.len() - at;
-        self.pairs[i] = (at as u16, len as u16);
-        self.count = i + 1;
-        Ok(())
+        self.pairs.try_push((at as u16, len as u16))
     }
 
     /// Whether there is no room for one entry more.
+    #[tactic(auto, using(crate::proofs::Pushes::count_entries), unfolding(crate::specs::Held::entries_of))]
     pub fn is_full(&self) -> bool
         ensures { result ≡ nat_le entries_max (length (entries_of self.now)) }
     {
-        !has_room(self.count)
+        self.pairs.is_full()
     }
 
     /// The record with this stamp and the entries so far, if there is one: no record is without entries.
@@ -64,15 +51,15 @@ impl RecordWriter {
         ensures law { ReadsBack × Short × Reached }
         ensures cases { MatchOption result (entries_of self.now ≡ []) (λ b. Records stamp (entries_of self.now) (bytes_of b)) }
     {
-        if self.count == 0 {
+        let count = self.pairs.len();
+        if count == 0 {
             return None;
         }
         let mut out = Buffer::new();
         out.append(&stamp.to_le_bytes());
-        out.append(&[self.count as u8]);
-        let base = (HEADER_SIZE + PAIR_SIZE * self.count) as u16;
-        for i in 0..self.count {
-            let (offset, len) = self.pairs[i];
+        out.append(&[count as u8]);
+        let base = (HEADER_SIZE + PAIR_SIZE * count) as u16;
+        for &(offset, len) in self.pairs.as_slice() {
             out.append_pair(base + offset, len);
         }
         out.append(self.bodies.as_bytes());
