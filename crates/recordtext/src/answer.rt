@@ -63,8 +63,7 @@ fn unhexed(heap: Global, line: &str) -> Result<String, AllocError>
 pub fn answer_to(heap: Global, line: &str) -> Result<String, AllocError>
     ensures { IfOk result (λ t. Answered (is_words line.now) line.now (string_bytes t)) }
 {
-    let bytes = line.as_bytes();
-    if bytes.len() > 0 && bytes[0] == b's' {
+    if line.starts_with('s') {
         hexed(heap, line)
     } else {
         unhexed(heap, line)
