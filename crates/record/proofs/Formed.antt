@@ -2,7 +2,7 @@
 use Rattle.std.proofs.Common.{◌≡◌, ℕ, zero, suc, ◌+◌, ◌-◌, ◌*◌, ◌/◌, ◌<◌, ◌≤◌, Bool, true, false, ◌&&◌, eqb, leb, List, [], ◌∷◌, ◌++◌, map, length, get_or, take, drop, sym, refl, ap, ◌∙◌, subst, arith}
 use Rattle.std.specs.List.{flat_map as JoinedBy, AllByRecursion}
 use Rattle.std.specs.Simd.{first_chunks}
-use Rattle.std.proofs.lemmas.List.{append_assoc, get_or-take, length-append, length-drop, length-map, length-take-le, take_at, take_rest, drop_at, take-append-drop, drop-drop, drop_more, at_drop_more}
+use Rattle.std.proofs.lemmas.List.{append_assoc, get_or-take, length-append, length-drop, length-map, length-take-le, take_at, take_rest, drop_at, take-append-drop, drop-drop, drop_more}
 use Rattle.std.proofs.lemmas.Bool.{both_ways, and_parts, and_from, and_left, and_right, eq-eqb, ne_eqb, le-leb, lt-leb, leb-true}
 use Rattle.std.proofs.lemmas.Slice.Eq.{bytes_eq-Decides}
 use Rattle.names.specs.Names.{Bytes}
@@ -135,20 +135,6 @@ malformed bs h = by (is_record bs) refl
     by false e = refl
     by true e = absurd (both_ways (well_formed bs) h (record_is_formed bs e))
 
--- a reader's step from body to body
-pub next_body : (bs : Bytes) (at : ℕ) (ps : List Bytes) (i : ℕ) → i < length ps →
-    bodies_stand at (map pair_in (drop i ps)) bs ≡ (body_stands at (pair_in (get_or ps i [])) bs && bodies_stand (at + (pair_in (get_or ps i [])).1) (map pair_in (drop (i + 1) ps)) bs)
-next_body bs at ps i h = at_drop_more (λ x. bodies_stand at (map pair_in x) bs) ps i [] h
-
-pub no_more : (bs : Bytes) (at : ℕ) (ps : List Bytes) (i : ℕ) → i < length ps → body_stands at (pair_in (get_or ps i [])) bs ≡ false → bodies_stand at (map pair_in (drop i ps)) bs ≡ false
-no_more bs at ps i h f = next_body bs at ps i h ∙ and_left (body_stands at (pair_in (get_or ps i [])) bs) _ f
-
-pub after-body : (bs : Bytes) (at e : ℕ) (ps : List Bytes) (i : ℕ) → i < length ps → body_stands at (pair_in (get_or ps i [])) bs ≡ true → e ≡ at + (pair_in (get_or ps i [])).1
-    → bodies_stand e (map pair_in (drop (i + 1) ps)) bs ≡ bodies_stand at (map pair_in (drop i ps)) bs
-after-body bs at e ps i h t k =
-    let rest = map pair_in (drop (i + 1) ps) in
-    ap (λ x. bodies_stand x rest bs) k ∙ sym (next_body bs at ps i h ∙ ap (λ b. b && bodies_stand (at + (pair_in (get_or ps i [])).1) rest bs) t)
-
 -- what a body that a pair names is, seen from where it should start
 module _ (bs : Bytes) (at : ℕ) (p : ℕ × ℕ) where
   pub off_start : (p.0 ≡ at → ⊥) → body_stands at p bs ≡ false
@@ -191,9 +177,6 @@ table_is bs t cs n h e f =
     let l : length t ≡ 4 * n = ap length g ∙ length-take-le (4 * n) (drop 5 bs) (omega arith) in
     let k : length t / 4 ≡ n = omega arith in
     ap (map pair_in) (f ∙ (λ i. first_chunks 4 (k i) (g i))) ∙ chunk_pairs n (drop 5 bs) (omega arith)
-
-pub ill_bodies : (bs : Bytes) → bodies_stand (front_size (count_in bs)) (pairs_from (count_in bs) (drop 5 bs)) bs ≡ false → well_formed bs ≡ false
-ill_bodies bs h = and_right (leb 5 (length bs) && (leb 1 (count_in bs) && leb (count_in bs) 28)) _ (and_right (leb (front_size (count_in bs)) (length bs)) _ h)
 
 pub formed_if : (bs : Bytes) → 5 ≤ length bs → 1 ≤ count_in bs → count_in bs ≤ 28 → front_size (count_in bs) ≤ length bs → well_formed bs ≡ bodies_stand (front_size (count_in bs)) (pairs_from (count_in bs) (drop 5 bs)) bs
 formed_if bs a b d e =

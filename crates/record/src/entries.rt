@@ -8,6 +8,7 @@ use crate::entry::Entry;
 use crate::view::RecordView;
 
 /// The entries of a record, in order.
+// A place is kept, and no chain over places: a chain's type names its closure, which no result type can.
 #[derive(Clone, Copy)]
 pub struct Entries<'a> {
     view: RecordView<'a>,
