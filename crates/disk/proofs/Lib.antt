@@ -1,4 +1,5 @@
 pub mod Lists
+pub mod SameKeys
 pub mod Unless
 pub mod Kept
 pub mod Shown

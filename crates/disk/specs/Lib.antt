@@ -7,3 +7,5 @@ pub mod Blocks
 pub mod Perform
 pub mod Steady
 pub mod Alike
+pub mod Steps
+pub mod Texts

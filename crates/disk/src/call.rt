@@ -2,7 +2,8 @@ ghost use Rattle.std.specs.Prelude.{◌≡◌, List};
 ghost use Rattle.names.specs.Names.{Bytes};
 ghost use Rattle.disk.specs.DiskState.{DiskState};
 ghost use Rattle.disk.specs.Restart.{Restarted};
-ghost use Rattle.disk.specs.Perform.{reply, after, filled, replies};
+ghost use Rattle.disk.specs.Perform.{after, replies};
+ghost use Rattle.disk.specs.Steps.{Replies};
 ghost use Rattle.disk.specs.Steady.{Steady, Survived};
 ghost use Rattle.disk.specs.Alike.{Alike};
 ghost use Rattle.disk.specs.declared.call.Call.{Call as CallT};
@@ -13,7 +14,7 @@ use crate::refusal::{Count, Refusal};
 use names::limits::BLOCK_MAX;
 
 /// A call of a disk, but for restart. What a store writes is lent beside it.
-#[derive(Clone, Copy)]
+#[derive(Clone, Copy, PartialEq, Eq)]
 pub enum Call {
     Count,
     IsUsed(Key),
@@ -25,7 +26,7 @@ pub enum Call {
 }
 
 /// What a disk answers to a call.
-#[derive(Clone, Copy)]
+#[derive(Clone, Copy, PartialEq, Eq, Debug)]
 pub enum Reply {
     Counted(Count),
     Used(bool),
@@ -35,7 +36,7 @@ pub enum Reply {
 
 // What `perform` does.
 fn dispatch<D: Disk>(disk: &mut D, call: &Call, bytes: &[u8], into: &mut [u8; BLOCK_MAX]) -> Reply
-    ensures { (m : DiskState) → D.Disk.models disk.old m → (result ≡ reply m call.now bytes.now) × ((into.new ≡ filled m call.now into.old) × D.Disk.models disk.new (after m call.now bytes.now)) }
+    ensures { Replies D.Disk.models disk.old disk.new call.now bytes.now result into.old into.new }
 {
     match call {
         Call::Count => Reply::Counted(disk.count()),
@@ -55,7 +56,7 @@ pub fn perform<D: Disk>(
     bytes: &[u8],
     into: &mut [u8; BLOCK_MAX],
 ) -> Reply
-    ensures step { (m : DiskState) → D.Disk.models disk.old m → (result ≡ reply m call.now bytes.now) × ((into.new ≡ filled m call.now into.old) × D.Disk.models disk.new (after m call.now bytes.now)) }
+    ensures step { Replies D.Disk.models disk.old disk.new call.now bytes.now result into.old into.new }
     ensures steady { (m : DiskState) → D.Disk.models disk.old m → Steady m (after m call.now bytes.now) }
 {
     dispatch(disk, call, bytes, into)

@@ -2,8 +2,8 @@ ghost use Rattle.std.specs.Prelude.{◌≡◌};
 ghost use Rattle.disk.specs.Keys.{key_of};
 ghost use Rattle.disk.specs.DiskState.{DiskState, used_at};
 ghost use Rattle.disk.specs.Lawful.{Lawful};
-ghost use Rattle.disk.specs.Calls.{counted, Within, read as read_step, read_into, store as store_step, rename as rename_step, remove as remove_step, settle as settle_step};
-ghost use Rattle.disk.specs.Restart.{Restarted};
+ghost use Rattle.disk.specs.Calls.{counted, Within, store as store_step, rename as rename_step, remove as remove_step, settle as settle_step};
+ghost use Rattle.disk.specs.Steps.{Performs, Reads, Restarts};
 
 use crate::key::Key;
 use crate::refusal::{Count, Refusal};
@@ -26,27 +26,27 @@ pub trait Disk {
     /// Puts the bytes of the key at the front of the buffer and says how many they are; or none, if it shows nothing.
     fn read(&mut self, key: &Key, into: &mut [u8; BLOCK_MAX]) -> Result<Option<usize>, Refusal>
         ensures bound { Within result }
-        ensures step { (m : DiskState) → models self.old m → (result ≡ read_step m (key_of key.now)) × ((into.new ≡ read_into m (key_of key.now) into.old) × models self.new m) };
+        ensures step { Reads models self.old self.new (key_of key.now) result into.old into.new };
 
     /// Lets the key show the bytes. Until the next settle a cut may leave it with anything.
     fn store(&mut self, key: &Key, bytes: &[u8]) -> Result<(), Refusal>
-        ensures { (m : DiskState) → models self.old m → (result ≡ (store_step m (key_of key.now) bytes.now).0) × models self.new (store_step m (key_of key.now) bytes.now).1 };
+        ensures { Performs models self.old self.new result (λ m. store_step m (key_of key.now) bytes.now) };
 
     /// Lets the key `to` show what `from` shows, and `from` nothing.
     fn rename(&mut self, from: &Key, to: &Key) -> Result<(), Refusal>
-        ensures { (m : DiskState) → models self.old m → (result ≡ (rename_step m (key_of from.now) (key_of to.now)).0) × models self.new (rename_step m (key_of from.now) (key_of to.now)).1 };
+        ensures { Performs models self.old self.new result (λ m. rename_step m (key_of from.now) (key_of to.now)) };
 
     /// Lets the key show nothing.
     fn remove(&mut self, key: &Key) -> Result<(), Refusal>
-        ensures { (m : DiskState) → models self.old m → (result ≡ (remove_step m (key_of key.now)).0) × models self.new (remove_step m (key_of key.now)).1 };
+        ensures { Performs models self.old self.new result (λ m. remove_step m (key_of key.now)) };
 
     /// Makes every key firm.
     fn settle(&mut self) -> Result<(), Refusal>
-        ensures { (m : DiskState) → models self.old m → (result ≡ (settle_step m).0) × models self.new (settle_step m).1 };
+        ensures { Performs models self.old self.new result settle_step };
 
     /// The power was cut and is back, with that charge. Where marks leave a choice, the pick takes it.
     fn restart(&mut self, charge: u16, pick: u16)
-        ensures { (m : DiskState) → models self.old m → ((n : DiskState) × (Restarted m charge n × models self.new n)) };
+        ensures { Restarts models self.old self.new charge };
 
     ghost lawful: { (s : Self) (m : DiskState) → models s m → Lawful m };
 }

@@ -1,25 +1,63 @@
--- A name cut at its last dot.
-use Rattle.std.proofs.Common.{◌≡◌, ℕ, zero, suc, ◌+◌, ◌<◌, [], ◌∷◌, ◌++◌, length, get_or, take, drop, Some, None, ap, ◌∙◌}
-use Rattle.std.proofs.lemmas.List.{at_drop_more, append-nil}
-use Rattle.std.proofs.lemmas.Bool.{eq-eqb, ne_eqb}
+-- A text cut at a byte: at the first that is c, and at the last dot.
+use Rattle.std.proofs.Common.{◌≡◌, ◌≢◌, ℕ, zero, suc, ◌+◌, ◌<◌, ◌≤◌, Bool, true, false, cond, not, eqb, [], ◌∷◌, length, get_or, take, drop, Some, None, refl, sym, ap, ◌∙◌, arith}
+use Rattle.std.specs.List.{position, position_or_len, before_first, after_first}
+use Rattle.std.proofs.lemmas.List.{take_all, drop_all}
+use Rattle.std.proofs.lemmas.Bool.{ltb-false, eq-eqb, ne_eqb}
 use Rattle.names.specs.Names.{Bytes}
+use Rattle.script.specs.Lines.{before, after}
 use Rattle.script.specs.Candidates.{cut_more, cut_last}
 
--- a dot behind the first i bytes is the last one of the whole
-pub cut_behind : (i : ℕ) (t a b : Bytes) → cut_last (drop i t) ≡ Some (a, b) → cut_last t ≡ Some (take i t ++ a, b)
-cut_behind zero t a b h = h
-cut_behind (suc i) [] a b h = h
-cut_behind (suc i) (x ∷ t) a b h = ap (cut_more x t) (cut_behind i t a b h)
+one_before : (t : Bool) (n x : ℕ) (xs : Bytes) → take (cond (not t) (1 + n) 0) (x ∷ xs) ≡ cond t [] (x ∷ take n xs)
+one_before true n x xs = refl
+one_before false n x xs = let e : 1 + n ≡ suc n = omega arith in ap (λ (k : ℕ). take k (x ∷ xs)) e
 
-module _ (t : Bytes) (i : ℕ) (h : i < length t) (none : cut_last (drop (i + 1) t) ≡ None) where
-  pub no-dot : (get_or t i 0 ≡ 46 → ⊥) → cut_last (drop i t) ≡ None
-  no-dot n =
-      let q = ne_eqb (get_or t i 0) 46 n in
-      at_drop_more cut_last t i 0 h ∙ (ap (cut_more (get_or t i 0) (drop (i + 1) t)) none ∙ rw q)
+one_after : (t : Bool) (n x : ℕ) (xs : Bytes) → drop (cond (not t) (1 + n) 0 + 1) (x ∷ xs) ≡ cond t xs (drop (n + 1) xs)
+one_after true n x xs = refl
+one_after false n x xs = let e : 1 + n + 1 ≡ suc (n + 1) = omega arith in ap (λ (k : ℕ). drop k (x ∷ xs)) e
 
-  pub last_dot : get_or t i 0 ≡ 46 → cut_last t ≡ Some (take i t, drop (i + 1) t)
-  last_dot n =
-      let q = eq-eqb (get_or t i 0) 46 n in
-      let s : cut_last (drop i t) ≡ Some ([], drop (i + 1) t) =
-      at_drop_more cut_last t i 0 h ∙ (ap (cut_more (get_or t i 0) (drop (i + 1) t)) none ∙ rw q) in
-      cut_behind i t [] (drop (i + 1) t) s ∙ ap (λ (a : Bytes). Some (a, drop (i + 1) t)) (append-nil (take i t))
+hit : (b : Bool) (n i : ℕ) → cond b (Some n) None ≡ Some i → n ≡ i
+hit true n i h = cc
+hit false n i h = cc
+
+miss : (b : Bool) (n : ℕ) → cond b (Some n) None ≡ None → b ≡ false
+miss true n h = cc
+miss false n h = refl
+
+module _ (c : ℕ) where
+  is_before : (bs : Bytes) → before c bs ≡ before_first (λ b. eqb b c) bs
+  is_before [] = refl
+  is_before (b ∷ bs) = ap (λ xs. cond (eqb b c) [] (b ∷ xs)) (is_before bs) ∙ sym (one_before (eqb b c) (position_or_len (λ b. eqb b c) bs) b bs)
+
+  is_after : (bs : Bytes) → after c bs ≡ after_first (λ b. eqb b c) bs
+  is_after [] = refl
+  is_after (b ∷ bs) = ap (λ xs. cond (eqb b c) bs xs) (is_after bs) ∙ sym (one_after (eqb b c) (position_or_len (λ b. eqb b c) bs) b bs)
+
+  module _ (bs : Bytes) where
+    pub cut_at : (i : ℕ) → position (λ b. eqb b c) bs ≡ Some i → (take i bs ≡ before c bs) × (drop (i + 1) bs ≡ after c bs)
+    cut_at i h =
+        let e = hit _ _ i h in (
+          ap (λ (k : ℕ). take k bs) (sym e) ∙ sym (is_before bs),
+          ap (λ (k : ℕ). drop (k + 1) bs) (sym e) ∙ sym (is_after bs),
+        )
+
+    pub no_cut : position (λ b. eqb b c) bs ≡ None → (bs ≡ before c bs) × ([] ≡ after c bs)
+    no_cut h =
+        let k : length bs ≤ position_or_len (λ b. eqb b c) bs = ltb-false _ _ (miss _ _ h) in (
+          sym (is_before bs ∙ take_all _ bs k),
+          sym (is_after bs ∙ drop_all _ bs (omega arith)),
+        )
+
+-- no byte is a dot
+pub dotless : (t : Bytes) → ((k : ℕ) → k < length t → get_or t k 0 ≢ 46) → cut_last t ≡ None
+dotless [] h = refl
+dotless (b ∷ t) h =
+    let q = ne_eqb b 46 (h 0 (omega arith)) in
+    ap (cut_more b t) (dotless t (λ k l. h (suc k) (omega arith))) ∙ rw q
+
+pub last_dot : (t : Bytes) (i : ℕ) → i < length t → get_or t i 0 ≡ 46 → ((k : ℕ) → i < k → k < length t → get_or t k 0 ≢ 46)
+    → cut_last t ≡ Some (take i t, drop (suc i) t)
+last_dot [] i l h f = absurd (omega arith)
+last_dot (b ∷ t) zero l h f =
+    let q = eq-eqb b 46 h in
+    ap (cut_more b t) (dotless t (λ k m. f (suc k) (omega arith) (omega arith))) ∙ rw q
+last_dot (b ∷ t) (suc i) l h f = ap (cut_more b t) (last_dot t i (omega arith) h (λ k m n. f (suc k) (omega arith) (omega arith)))

@@ -1,7 +1,7 @@
-use Rattle.std.proofs.Common.{◌++◌, vec_items, string_bytes, sym, ap, ◌∙◌}
+use Rattle.std.proofs.Common.{◌∷◌, ◌++◌, vec_items, string_bytes, sym, ap, ◌∙◌}
 use Rattle.std.proofs.lemmas.List.{append-nil}
-use Rattle.faults.specs.Trails.{step, steps}
-use Rattle.protocol.specs.Answers.{frame_text, trail_text}
+use Rattle.faults.specs.Trails.{step, steps, frame_text}
+use Rattle.protocol.specs.Answers.{trail_text}
 use Rattle.protocol.proofs.Prints.{trail_more, trail_all}
 use Rattle.protocol.proofs.answer.refusal_text.Goals as goal
 
@@ -10,12 +10,11 @@ loop-frame-init c = sym (append-nil (string_bytes c.in_ok-text.text))
 
 pub loop-frame-preserved : goal.loop-frame-preserved
 loop-frame-preserved c =
-    let f = c.frame-item.result in
-    trail_more (string_bytes c.in_ok-text.text) (string_bytes c.loop-frame.text) (string_bytes c.push_str.new.self) c.loop-frame.frame-index c.frames-frame-items.result.now f c.as_str.result.now
+    let s = string_bytes c.loop-frame.text in
+    trail_more (string_bytes c.in_ok-text.text) s (string_bytes c.write.new.self) c.loop-frame.frame-index c.frames-frame-items.result.now c.frame-item.result
     c.loop-frame-test.true
     c.loop-frame.invariant
-    (c.as_str.ensures.value ∙ (c.in_ok-passed.ensures ∙ ap (λ x. frame_text (step x)) c.frame-item.is))
-    c.in_ok-push_str.ensures.bytes
+    (c.in_ok-write.ensures.bytes ∙ ap (λ f. s ++ 32 ∷ frame_text (step f)) c.frame-item.is)
 
 pub returns : goal.returns
 returns c =

@@ -1,35 +1,17 @@
-use Rattle.std.proofs.Common.{◌+◌, ◌++◌, length, take, sym, ap, ◌∙◌, arith, rules}
-use native.Mathlib.Nat.{sub-zero}
-use Rattle.std.proofs.lemmas.List.{at_drop_all, take_all, append-nil, take_rest, drop_all}
-use Rattle.script.specs.Lines.{before, after}
-use Rattle.script.proofs.Texts.{before_more, after_more, before_here, after_here}
+use Rattle.std.proofs.Common.{◌+◌, sym, ◌∙◌}
+use Rattle.std.proofs.lemmas.List.{take_rest}
+use Rattle.script.proofs.Cuts.{cut_at, no_cut}
 use Rattle.script.proofs.lines.cut.Goals as goal
 
-pub returns-then-b-at : goal.returns-then-b-at
-returns-then-b-at c =
-    let xs = c.args.text.now in
-    let b = before_here c.args.at xs c.loop-i.i c.loop-i-test.true c.if-b-at.true in
-    let a = after_here c.args.at xs c.loop-i.i c.loop-i-test.true c.if-b-at.true in
-    record {
-      front = simp sub-zero (sym (c.loop-i.invariant.0 ∙ (ap (λ ys. take c.loop-i.i xs ++ ys) b ∙ append-nil (take c.loop-i.i xs))));
-      behind = take_rest xs (c.loop-i.i + 1) ∙ sym (c.loop-i.invariant.1 ∙ a);
-      shorter = search rules;
-    }
+pub returns-in-Some-clause-front : goal.returns-in-Some-clause-front
+returns-in-Some-clause-front c = (cut_at c.args.at c.args.text.now c.in-Some.i (sym c.place_of.ensures ∙ c.in-Some.is)).0
 
-pub loop-i-preserved : goal.loop-i-preserved
-loop-i-preserved c =
-    let xs = c.args.text.now in (
-      before_more c.args.at xs c.loop-i.i c.loop-i-test.true c.if-b-at.false c.loop-i.invariant.0,
-      c.loop-i.invariant.1 ∙ after_more c.args.at xs c.loop-i.i c.loop-i-test.true c.if-b-at.false,
-    )
+pub returns-in-Some-clause-behind : goal.returns-in-Some-clause-behind
+returns-in-Some-clause-behind c =
+    take_rest c.args.text.now (c.in-Some.i + 1) ∙ (cut_at c.args.at c.args.text.now c.in-Some.i (sym c.place_of.ensures ∙ c.in-Some.is)).1
 
-pub returns : goal.returns
-returns c =
-    let xs = c.args.text.now in
-    let b = at_drop_all (before c.args.at) xs c.loop-i.i c.loop-i-test.false in
-    let a = at_drop_all (after c.args.at) xs c.loop-i.i c.loop-i-test.false in
-    record {
-      front = sym (c.loop-i.invariant.0 ∙ (ap (λ ys. take c.loop-i.i xs ++ ys) b ∙ (append-nil (take c.loop-i.i xs) ∙ take_all c.loop-i.i xs c.loop-i-test.false)));
-      behind = take_rest xs (length xs) ∙ (drop_all (length xs) xs (omega arith) ∙ sym (c.loop-i.invariant.1 ∙ a));
-      shorter = search rules;
-    }
+pub returns-in-None-clause-front : goal.returns-in-None-clause-front
+returns-in-None-clause-front c = (no_cut c.args.at c.args.text.now (sym c.place_of.ensures ∙ c.in-None.is)).0
+
+pub returns-in-None-clause-behind : goal.returns-in-None-clause-behind
+returns-in-None-clause-behind c = (no_cut c.args.at c.args.text.now (sym c.place_of.ensures ∙ c.in-None.is)).1
