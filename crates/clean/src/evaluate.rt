@@ -1,13 +1,13 @@
-ghost use Rattle.std.specs.Prelude.{◌≡◌, ◌-◌, ◌<◌, ◌≤◌, true, [], length, is_ok};
-ghost use Rattle.names.specs.Limits.{depth_max};
+ghost use Rattle.std.specs.Prelude.{◌≡◌, ◌<◌, ◌≤◌, true, [], length, is_ok};
 ghost use Rattle.names.specs.Spelled.{spelled};
 ghost use Rattle.script.specs.Candidates.{candidates as all_candidates};
 ghost use Rattle.script.specs.Tree.{query};
+ghost use Rattle.script.specs.Search.{whole_run};
 ghost use Rattle.script.specs.View.{view, tree_of, after_doing};
 ghost use Rattle.clean.specs.Files.{laid};
 ghost use Rattle.clean.specs.Status.{status as status_of};
 ghost use Rattle.clean.specs.Told.{told};
-ghost use Rattle.clean.specs.Evaluate.{evaluate as evaluated, clean, as_answer};
+ghost use Rattle.clean.specs.Evaluate.{clean, as_answer};
 ghost use Rattle.clean.specs.Opening.{opening};
 ghost use Rattle.clean.specs.Answered.{answered, yielded, sought, gets, finished, Told};
 ghost use Rattle.clean.specs.Chains.{opened};
@@ -27,30 +27,6 @@ pub struct Opening {
     entries: Entries,
 }
 
-/// Finds the script of a target.
-fn seek(files: &Files, target: &Name) -> Result<Opening, ScriptFault>
-    ensures { sought (spelled target.now) result ≡ opening (laid files.now) (all_candidates (spelled target.now)) [] }
-{
-    let mut entries = Entries::new();
-    for script in Candidates::new(*target) {
-        if !entries.has(Kind::Absent, &script.script) {
-            if entries.is_full() {
-                return Err(ScriptFault::TooManyEntries);
-            }
-            if let Some(text) = files.get(&script.script) {
-                entries.push(Kind::Script, script.script, Page::new());
-                return Ok(Opening {
-                    script,
-                    text,
-                    entries,
-                });
-            }
-            entries.push(Kind::Absent, script.script, Page::new());
-        }
-    }
-    Err(ScriptFault::Absent)
-}
-
 /// A target that is open, over the laid files: the chain ends in it.
 #[derive(Clone, Copy)]
 struct Open<'a> {
@@ -59,28 +35,56 @@ struct Open<'a> {
     target: Name,
 }
 
-impl<'a> Open<'a> {
+impl Open<'_> {
+    /// Finds the target's script.
+    fn seek(&self) -> Result<Opening, Fault>
+        ensures { sought (spelled self.now.target) result (opening (laid self.now.files.now) (all_candidates (spelled self.now.target)) []) }
+    {
+        let mut entries = Entries::new();
+        for script in Candidates::new(self.target) {
+            if !entries.has(Kind::Absent, &script.script) {
+                if entries.is_full() {
+                    return Err(Fault::at(ScriptFault::TooManyEntries, self.target, 0));
+                }
+                if let Some(text) = self.files.get(&script.script) {
+                    entries.push(Kind::Script, script.script, Page::new());
+                    return Ok(Opening {
+                        script,
+                        text,
+                        entries,
+                    });
+                }
+                entries.push(Kind::Absent, script.script, Page::new());
+            }
+        }
+        Err(Fault::at(ScriptFault::Absent, self.target, 0))
+    }
+
     /// Finds the target's script, and runs it.
     #[cycle(drive_evaluate_fetch_tell)]
     fn evaluate(&self) -> Result<Page, Fault>
         requires { 0 < length (opened self.now.chain) }
-        ensures { yielded result ≡ as_answer (opened_page (laid self.now.files.now) (opened self.now.chain) (spelled self.now.target)) }
+        ensures { yielded result ≡ as_answer (finished (laid self.now.files.now) (opened self.now.chain) (spelled self.now.target) (whole_run (spelled self.now.target))) }
     {
-        let opening = seek(self.files, &self.target).map_err(|why| Fault::at(why, self.target, 0))?;
+        let opening = self.seek()?;
         let stem = opening.script.stem(self.target.as_bytes());
-        self.drive(Run::new(stem, &opening.text, opening.entries))
+        let mut run = Run::new(stem, &opening.text, opening.entries);
+        self.drive(&mut run)
     }
 
     /// Goes on with a run until it ends.
     #[cycle(drive_evaluate_fetch_tell)]
-    fn drive(&self, mut run: Run) -> Result<Page, Fault>
+    fn drive(&self, run: &mut Run) -> Result<Page, Fault>
         requires { 0 < length (opened self.now.chain) }
-        ensures { yielded result ≡ as_answer (finished (laid self.now.files.now) (opened self.now.chain) (spelled self.now.target) (tree_of (view run.entry))) }
+        ensures { yielded result ≡ as_answer (finished (laid self.now.files.now) (opened self.now.chain) (spelled self.now.target) (tree_of (view run.old))) }
     {
-        while let Some(question) = run.next().map_err(|why| Fault::at(why, self.target, run.line()))? {
-            self.tell(&mut run, question)?;
+        loop {
+            match run.next() {
+                Ok(None) => return Ok(*run.page()),
+                Ok(Some(question)) => self.tell(run, question)?,
+                Err(why) => return Err(Fault::at(why, self.target, run.line())),
+            }
         }
-        Ok(*run.page())
     }
 
     /// Answers one question of a run.
@@ -93,12 +97,24 @@ impl<'a> Open<'a> {
     {
         let status = Status::of(self.files, &question.name);
         if let Status::Absent = status {
-            return run.absent(question).map_err(|why| self.fault(why, run));
+            if let Err(why) = run.absent(question) {
+                return Err(Fault::at(why, self.target, run.line()));
+            }
+            return Ok(());
         }
-        run.refusal(question).map_err(|why| self.fault(why, run))?;
-        let bytes = self.fetch(&question.name, status).map_err(|fault| fault.passed(self.target, run.line()))?;
-        run.present(question, bytes);
-        Ok(())
+        if let Err(why) = run.refusal(question) {
+            return Err(Fault::at(why, self.target, run.line()));
+        }
+        match self.fetch(&question.name, status) {
+            Ok(bytes) => {
+                run.present(question, bytes);
+                Ok(())
+            }
+            Err(mut fault) => {
+                fault.pass(self.target, run.line());
+                Err(fault)
+            }
+        }
     }
 
     /// What a name yields to the run of the target.
@@ -117,8 +133,48 @@ impl<'a> Open<'a> {
                 if self.chain.is_full() {
                     return Err(Fault::new(ScriptFault::TooDeep.into()));
                 }
-                Open { files: self.files, chain: self.chain.with(*name), target: *name }.evaluate()
+                let needed = Open {
+                    files: self.files,
+                    chain: self.chain.with(*name),
+                    target: *name,
+                };
+                needed.evaluate()
             }
+        }
+    }
+}
+
+/// The clean page of a name, or why there is none.
+fn page_of(files: &Files, name: &[u8]) -> Result<Page, Fault>
+    ensures { yielded result ≡ clean (laid files.now) name.now }
+{
+    let target = Name::new(name).ok_or(Fault::new(Cause::Misnamed))?;
+    match Status::of(files, &target) {
+        Status::Absent => Err(Fault::new(Cause::Unknown)),
+        Status::Source(_) => Err(Fault::new(Cause::Plain)),
+        Status::Target => {
+            let chain = Chain::new().with(target);
+            let asked = Open {
+                files,
+                chain,
+                target,
+            };
+            asked.evaluate()
+        }
+    }
+}
+
+/// Clean evaluation of a name that is given as bytes: its page over the laid files, as from bare files. Where there is
+/// none, the fault stands in the lent place, which a page leaves as it was.
+pub fn clean_page(files: &Files, name: &[u8], fault: &mut Fault) -> Result<Page, Failed>
+    ensures value { answered result fault.new ≡ clean (laid files.now) name.now }
+    ensures kept { is_ok result ≡ true → fault.new ≡ fault.old }
+{
+    match page_of(files, name) {
+        Ok(page) => Ok(page),
+        Err(why) => {
+            *fault = why;
+            Err(Failed)
         }
     }
 }

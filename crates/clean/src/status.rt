@@ -21,13 +21,7 @@ pub enum Status {
 fn has_script(files: &Files, name: &Name) -> bool
     ensures { result ≡ any_laid (laid files.now) (all_candidates (spelled name.now)) }
 {
-    let mut candidates = Candidates::new(*name);
-    while let Some(candidate) = candidates.next() {
-        if files.get(&candidate.script).is_some() {
-            return true;
-        }
-    }
-    false
+    Candidates::new(*name).any(|candidate| files.get(&candidate.script).is_some())
 }
 
 impl Status {

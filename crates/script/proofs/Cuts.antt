@@ -1,7 +1,7 @@
 -- A text cut at a byte: at the first that is c, and at the last dot.
-use Rattle.std.proofs.Common.{◌≡◌, ◌≢◌, ℕ, zero, suc, ◌+◌, ◌<◌, ◌≤◌, Bool, true, false, cond, not, eqb, [], ◌∷◌, length, get_or, take, drop, Some, None, refl, sym, ap, ◌∙◌, arith}
+use Rattle.std.proofs.Common.{◌≡◌, ◌≢◌, ℕ, zero, suc, ◌+◌, ◌-◌, ◌<◌, ◌≤◌, Bool, true, false, cond, not, eqb, [], ◌∷◌, length, get_or, take, drop, Some, None, refl, sym, ap, ◌∙◌, add-one, arith}
 use Rattle.std.specs.List.{position, position_or_len, before_first, after_first}
-use Rattle.std.proofs.lemmas.List.{take_all, drop_all}
+use Rattle.std.proofs.lemmas.List.{take_all, drop_all, take_rest, length-take-le}
 use Rattle.std.proofs.lemmas.Bool.{ltb-false, eq-eqb, ne_eqb}
 use Rattle.names.specs.Names.{Bytes}
 use Rattle.script.specs.Lines.{before, after}
@@ -33,19 +33,20 @@ module _ (c : ℕ) where
   is_after (b ∷ bs) = ap (λ xs. cond (eqb b c) bs xs) (is_after bs) ∙ sym (one_after (eqb b c) (position_or_len (λ b. eqb b c) bs) b bs)
 
   module _ (bs : Bytes) where
-    pub cut_at : (i : ℕ) → position (λ b. eqb b c) bs ≡ Some i → (take i bs ≡ before c bs) × (drop (i + 1) bs ≡ after c bs)
-    cut_at i h =
-        let e = hit _ _ i h in (
-          ap (λ (k : ℕ). take k bs) (sym e) ∙ sym (is_before bs),
-          ap (λ (k : ℕ). drop (k + 1) bs) (sym e) ∙ sym (is_after bs),
-        )
+    pub front_at : (i : ℕ) → position (λ b. eqb b c) bs ≡ Some i → take i bs ≡ before c bs
+    front_at i h = ap (λ (k : ℕ). take k bs) (sym (hit _ _ i h)) ∙ sym (is_before bs)
 
-    pub no_cut : position (λ b. eqb b c) bs ≡ None → (bs ≡ before c bs) × ([] ≡ after c bs)
-    no_cut h =
-        let k : length bs ≤ position_or_len (λ b. eqb b c) bs = ltb-false _ _ (miss _ _ h) in (
-          sym (is_before bs ∙ take_all _ bs k),
-          sym (is_after bs ∙ drop_all _ bs (omega arith)),
-        )
+    pub behind_at : (i : ℕ) → position (λ b. eqb b c) bs ≡ Some i → take (length bs - (i + 1)) (drop (i + 1) bs) ≡ after c bs
+    behind_at i h = take_rest bs (i + 1) ∙ (ap (λ (k : ℕ). drop (k + 1) bs) (sym (hit _ _ i h)) ∙ sym (is_after bs))
+
+    all : position (λ b. eqb b c) bs ≡ None → length bs ≤ position_or_len (λ b. eqb b c) bs
+    all h = ltb-false _ _ (miss _ _ h)
+
+    pub front_whole : position (λ b. eqb b c) bs ≡ None → bs ≡ before c bs
+    front_whole h = sym (is_before bs ∙ take_all _ bs (all h))
+
+    pub behind_none : position (λ b. eqb b c) bs ≡ None → [] ≡ after c bs
+    behind_none h = let k = all h in sym (is_after bs ∙ drop_all _ bs (omega arith))
 
 -- no byte is a dot
 pub dotless : (t : Bytes) → ((k : ℕ) → k < length t → get_or t k 0 ≢ 46) → cut_last t ≡ None
@@ -54,10 +55,17 @@ dotless (b ∷ t) h =
     let q = ne_eqb b 46 (h 0 (omega arith)) in
     ap (cut_more b t) (dotless t (λ k l. h (suc k) (omega arith))) ∙ rw q
 
-pub last_dot : (t : Bytes) (i : ℕ) → i < length t → get_or t i 0 ≡ 46 → ((k : ℕ) → i < k → k < length t → get_or t k 0 ≢ 46)
+dot_at : (t : Bytes) (i : ℕ) → i < length t → get_or t i 0 ≡ 46 → ((k : ℕ) → i < k → k < length t → get_or t k 0 ≢ 46)
     → cut_last t ≡ Some (take i t, drop (suc i) t)
-last_dot [] i l h f = absurd (omega arith)
-last_dot (b ∷ t) zero l h f =
+dot_at [] i l h f = absurd (omega arith)
+dot_at (b ∷ t) zero l h f =
     let q = eq-eqb b 46 h in
     ap (cut_more b t) (dotless t (λ k m. f (suc k) (omega arith) (omega arith))) ∙ rw q
-last_dot (b ∷ t) (suc i) l h f = ap (cut_more b t) (last_dot t i (omega arith) h (λ k m n. f (suc k) (omega arith) (omega arith)))
+dot_at (b ∷ t) (suc i) l h f = ap (cut_more b t) (dot_at t i (omega arith) h (λ k m n. f (suc k) (omega arith) (omega arith)))
+
+pub last_dot : (t : Bytes) (i : ℕ) → i < length t → get_or t i 0 ≡ 46 → ((k : ℕ) → i < k → k < length t → get_or t k 0 ≢ 46)
+    → (cut_last t ≡ Some (take i t, take (length t - (i + 1)) (drop (i + 1) t))) × (take (length (take i t)) t ≡ take i t)
+last_dot t i l h f = (
+  dot_at t i l h f ∙ ap (λ (x : Bytes). Some (take i t, x)) (ap (λ (k : ℕ). drop k t) (sym (add-one i)) ∙ sym (take_rest t (i + 1))),
+  ap (λ (k : ℕ). take k t) (length-take-le i t (omega arith)),
+)

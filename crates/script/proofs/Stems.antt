@@ -14,6 +14,9 @@ use Rattle.script.specs.declared.candidates.Candidates.{Candidates}
 pub joined_long : (a b c : Bytes) → 24 < length a + (length b + length c) → is_name (a ++ (b ++ c)) ≡ false
 joined_long a b c h = too_long (a ++ (b ++ c)) (omega (arith, length-append a (b ++ c), length-append b c))
 
+pub joined_over : (a b c : Bytes) → 24 < length (a ++ b) + length c → is_name (a ++ (b ++ c)) ≡ false
+joined_over a b c h = joined_long a b c (omega (arith, length-append a b))
+
 module _ (t : Bytes) where
   pub parts : (cs : Candidates) → to_come t cs ≡ listed t cs.own ++ (listed t cs.ending ++ listed t cs.fallback)
   parts cs =

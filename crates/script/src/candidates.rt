@@ -25,7 +25,7 @@ pub struct Candidates {
 }
 
 /// The name that three pieces spell together, if it is one.
-#[tactic(auto, using(crate::proofs::Stems::joined_long))]
+#[tactic(auto, using(crate::proofs::Stems::joined_long, crate::proofs::Stems::joined_over))]
 fn join(a: &[u8], b: &[u8], c: &[u8]) -> Option<Name>
     ensures { MatchOption result (is_name (a.now ++ (b.now ++ c.now)) ≡ false) (λ n. spelled n ≡ a.now ++ (b.now ++ c.now)) }
 {
@@ -46,6 +46,7 @@ fn last_dot(name: &[u8]) -> Option<usize>
 }
 
 /// What precedes and what follows the last dot.
+#[tactic(auto, using(crate::proofs::Cuts::dotless, crate::proofs::Cuts::last_dot))]
 fn cut_last(name: &[u8]) -> Option<(&[u8], &[u8])>
     ensures { Parted result name.now }
 {

@@ -5,25 +5,24 @@ use Rattle.script.specs.View.{view, tree_of}
 use Rattle.clean.specs.Answered.{finished}
 use Rattle.clean.specs.Chains.{opened}
 use Rattle.clean.specs.Files.{laid}
-use Rattle.clean.proofs.evaluate.+drive_fetch_open_target_tell.Given as goal
-
-abbrev pub decreases-open_target : goal.decreases-open_target
-decreases-open_target l = 4 * (depth_max - length (opened l.chain.now))
+use Rattle.clean.proofs.evaluate.Open.+drive_evaluate_fetch_tell.Given as goal
 
 abbrev pub decreases-fetch : goal.decreases-fetch
-decreases-fetch l = 4 * (depth_max - length (opened l.chain.now)) + 1
+decreases-fetch l = 4 * (depth_max - length (opened l.self.now.chain))
 
 abbrev pub decreases-tell : goal.decreases-tell
-decreases-tell l = 4 * (depth_max - length (opened l.chain.now)) + 2
+decreases-tell l = 4 * (depth_max - length (opened l.self.now.chain)) + 1
 
 abbrev pub decreases-drive : goal.decreases-drive
-decreases-drive l = 4 * (depth_max - length (opened l.chain.now)) + 3
+decreases-drive l = 4 * (depth_max - length (opened l.self.now.chain)) + 2
+
+abbrev pub decreases-evaluate : goal.decreases-evaluate
+decreases-evaluate l = 4 * (depth_max - length (opened l.self.now.chain)) + 3
 
 abbrev pub invariant-drive-loop-run : goal.invariant-drive-loop-run
 invariant-drive-loop-run l =
-    (finished (laid l.files) (opened l.chain) (spelled l.target) (tree_of (view l.initial.run))
-    ≡ finished (laid l.files) (opened l.chain) (spelled l.target) (tree_of (view l.run)))
-    × (l.fault ≡ l.initial.fault)
+    finished (laid l.self.files.now) (opened l.self.chain) (spelled l.self.target) (tree_of (view l.initial.run))
+    ≡ finished (laid l.self.files.now) (opened l.self.chain) (spelled l.self.target) (tree_of (view l.run))
 
 abbrev pub decreases-drive-loop-run : goal.decreases-drive-loop-run
 decreases-drive-loop-run l = length l.run.rest.now
