@@ -1,12 +1,11 @@
 -- The place of a key and the room for it, as a search gives them.
-use Rattle.std.proofs.Common.{◌≡◌, ℕ, ◌<◌, ◌≤◌, Bool, true, false, cond, not, ltb, List, length, get_or, is_some, Some, None, Option, MatchOption, sym, refl, ap, ◌∙◌, subst, arith}
+use Rattle.std.proofs.Common.{◌≡◌, ℕ, ◌<◌, ◌≤◌, Bool, true, false, not, List, length, get_or, is_some, Some, None, Option, MatchOption, sym, refl, ap, ◌∙◌, subst, arith}
 use Rattle.std.specs.List.{position_or_len}
 use Rattle.std.specs.Bool.{then_some}
-use Rattle.std.proofs.lemmas.Bool.{ltb-true, ltb-false}
 use Rattle.std.proofs.lemmas.List.Recursion.{is_position_or_len}
 use Rattle.disk.specs.Keys.{KeyId}
 use Rattle.disk.specs.Blocks.{content_of}
-use Rattle.disk.proofs.Lists.{by_cases}
+use Rattle.disk.proofs.Lists.{by_cases, position-some, position_none}
 use Rattle.two_copy.specs.declared.place.Place.{Place}
 use Rattle.two_copy.specs.Places.{used_place, is_at, found, Copies, copies, place_of, vacancy_in, room_for}
 use Rattle.two_copy.proofs.Sought.{seek, vacant, slot}
@@ -18,38 +17,27 @@ seek_is ps k = is_position_or_len (λ xs. seek xs k) (λ p. is_at p k) refl (λ 
 vacant_is : (ps : List Place) → vacant ps ≡ position_or_len (λ p. not (used_place p)) ps
 vacant_is ps = is_position_or_len vacant (λ p. not (used_place p)) refl (λ x xs. by_cases (used_place x) (λ e. rw e (omega arith)) (λ e. rw e refl)) ps
 
--- what a search found, by the number that it counts to
-position-some : (n m i : ℕ) → cond (ltb n m) (Some n) None ≡ Some i → (i ≡ n) × (n < m)
-position-some n m i e = by_cases (ltb n m)
-    (λ t. let f : Some n ≡ Some i = rw t at e in (sym (cc), ltb-true n m t))
-    (λ t. let f : ◌≡◌ {A = Option ℕ} None (Some i) = rw t at e in cc)
-
-position_none : (n m : ℕ) → ◌≡◌ {A = Option ℕ} (cond (ltb n m) (Some n) None) None → m ≤ n
-position_none n m e = by_cases (ltb n m)
-    (λ t. let f : ◌≡◌ {A = Option ℕ} (Some n) None = rw t at e in cc)
-    (λ t. ltb-false n m t)
-
 pub placed : (ps : List Place) (k : KeyId) (i : ℕ) → place_of ps k ≡ Some i → (found ps k ≡ true) × ((i ≡ seek ps k) × (i < length ps))
 placed ps k i e =
-    let s = position-some (position_or_len (λ p. is_at p k) ps) (length ps) i e in
+    let s = position-some (λ p. is_at p k) ps i e in
     let n = seek_is ps k in
-    (seek_found ps k (omega (arith, s.1, n)), (omega (arith, s.0, n), omega (arith, s.0, s.1)))
+    (seek_found ps k (omega (arith, s.0, s.1, n)), (omega (arith, s.0, n), s.1))
 
 pub not_placed : (ps : List Place) (k : KeyId) → place_of ps k ≡ None → found ps k ≡ false
 not_placed ps k e =
-    let s = position_none (position_or_len (λ p. is_at p k) ps) (length ps) e in
+    let s = position_none (λ p. is_at p k) ps e in
     let n = seek_is ps k in
     seek_lost ps k (omega (arith, s, n))
 
 vacancy : (ps : List Place) (i : ℕ) → vacancy_in ps ≡ Some i → (i ≡ vacant ps) × (i < length ps)
 vacancy ps i e =
-    let s = position-some (position_or_len (λ p. not (used_place p)) ps) (length ps) i e in
+    let s = position-some (λ p. not (used_place p)) ps i e in
     let n = vacant_is ps in
-    (omega (arith, s.0, n), omega (arith, s.0, s.1))
+    (omega (arith, s.0, n), s.1)
 
 no_vacancy : (ps : List Place) → vacancy_in ps ≡ None → length ps ≤ vacant ps
 no_vacancy ps e =
-    let s = position_none (position_or_len (λ p. not (used_place p)) ps) (length ps) e in
+    let s = position_none (λ p. not (used_place p)) ps e in
     let n = vacant_is ps in
     omega (arith, s, n)
 
