@@ -1,8 +1,8 @@
 -- What the calls owe, over places.
 use Rattle.std.proofs.Common.{◌≡◌, ℕ, suc, ◌-◌, ◌<◌, ◌≤◌, Bool, true, false, not, ◌&&◌, ◌||◌, leb, List, [], ◌∷◌, ◌++◌, map, length, get_or, drop, set, is_some, Some, None, Ok, Err, Option, sym, refl, ap, ◌∙◌, subst, inl, inr, arith}
 use lib.Count.{ones}
-use Rattle.std.proofs.lemmas.Bool.{and_parts, both_ways, not-true, ne_eqb, lt-ltb, le-ltb, le-leb, lt-leb}
-use Rattle.disk.specs.declared.refusal.Refusal.TheVariants.{Long, Full}
+use Rattle.std.proofs.lemmas.Bool.{and_parts, both_ways, not-true, ne_eqb, le-ltb, le-leb, lt-leb}
+use Rattle.disk.specs.declared.refusal.Refusal.TheVariants.{Full}
 use Rattle.disk.specs.declared.key.Key.{Key}
 use Rattle.names.specs.Names.{Bytes}
 use Rattle.disk.specs.Keys.{KeyId, same_key, key_of}
@@ -39,9 +39,6 @@ module _ (ps : List Place) (charge : ℕ) (m : DiskState) (h : Models ps charge 
 
   pub settle-done : (charge ≡ 0 → ⊥) → apart ps ≡ true → tidy ps ≡ true → Owed (Ok tt) (map (refresh false) ps) (charge - 1) (settle m)
   settle-done n d t = rw (lit n) (refl, spent_models _ _ _ (settled_models ps charge m h d t))
-
-  pub store_long : (k : KeyId) (bs : Bytes) → (charge ≡ 0 → ⊥) → block_max < length bs → Owed (Err Long) ps charge (store m k bs)
-  store_long k bs n l = rw (lit n, lt-ltb block_max (length bs) l) (refl, h)
 
   -- full, by the slot
   slot_none : (k : KeyId) → apart ps ≡ true → length ps ≤ slot ps k → full m k ≡ true

@@ -1,6 +1,5 @@
 -- The number that marks the used places.
 use Rattle.std.proofs.Common.{◌≡◌, ℕ, zero, suc, ◌+◌, ◌*◌, ◌/◌, ◌%◌, ◌^◌, ◌<◌, ◌≤◌, Bool, true, false, cond, List, [], ◌∷◌, ◌++◌, length, get_or, take, set, sym, refl, ap, ◌∙◌, mul_comm, pow-suc, arith, pow_mono}
-use mir.Val.{bool_byte}
 use lib.Count.{ones, ones_step, ones-le}
 use Rattle.std.proofs.lemmas.List.{take_more, length_push, length-take-le}
 use Rattle.std.proofs.lemmas.Nat.{div-mul-add, mod-mul-add, or_comm, or_shr, or_mod, shr_split}
@@ -8,10 +7,6 @@ use lib.Bits.{bit_or}
 use Rattle.two_copy.specs.declared.place.Place.{Place}
 use Rattle.two_copy.specs.Places.{used_place, idle}
 use Rattle.two_copy.specs.Masks.{mask}
-
-pub bool_byte_lem : (b : Bool) → bool_byte b ≡ cond b 1 0
-bool_byte_lem true = refl
-bool_byte_lem false = refl
 
 pub bit_lt : (b : Bool) → cond b 1 0 < 2
 bit_lt true = omega arith
