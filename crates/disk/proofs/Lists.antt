@@ -1,6 +1,7 @@
 -- Lists of keys.
-use Rattle.std.proofs.Common.{◌≡◌, ℕ, suc, ◌≤◌, Bool, true, false, cond, not, ◌&&◌, eqb, List, [], ◌∷◌, length, sym, refl, ap, ◌∙◌, subst, arith}
-use Rattle.std.proofs.lemmas.Bool.{eqb-true, eq-eqb, and_parts, and_from, both_ways, not-true}
+use Rattle.std.proofs.Common.{◌≡◌, ℕ, suc, ◌<◌, ◌≤◌, Bool, true, false, cond, not, ◌&&◌, eqb, ltb, List, [], ◌∷◌, length, Some, None, Option, sym, refl, ap, ◌∙◌, subst, arith}
+use Rattle.std.proofs.lemmas.Bool.{eqb-true, eq-eqb, and_parts, and_from, both_ways, not-true, ltb-true, ltb-false}
+use Rattle.std.specs.List.{position, position_or_len}
 use Rattle.std.proofs.lemmas.Slice.Eq.{bytes_eq-Decides}
 use Rattle.std.specs.Str.{bytes_eq}
 use Rattle.disk.specs.Keys.{KeyId, same_key}
@@ -98,3 +99,14 @@ distinct-keep q (j ∷ js) d =
 pub length-keep : (q : KeyId → Bool) (js : List KeyId) → length (keep q js) ≤ length js
 length-keep q [] = omega arith
 length-keep q (j ∷ js) = let r = length-keep q js in by_cases (q j) (λ f. rw f (omega arith)) (λ f. rw f (omega arith))
+
+-- what a search of a list gave, by the number that it counts to
+pub position-some : {X : Type 0} (p : X → Bool) (xs : List X) (i : ℕ) → position p xs ≡ Some i → (i ≡ position_or_len p xs) × (i < length xs)
+position-some p xs i e = by_cases (ltb (position_or_len p xs) (length xs))
+    (λ t. let f : Some (position_or_len p xs) ≡ Some i = rw t at e in let n : i ≡ position_or_len p xs = sym (cc) in let l = ltb-true _ _ t in (n, omega (arith, n, l)))
+    (λ t. let f : ◌≡◌ {A = Option ℕ} None (Some i) = rw t at e in cc)
+
+pub position_none : {X : Type 0} (p : X → Bool) (xs : List X) → position p xs ≡ None → length xs ≤ position_or_len p xs
+position_none p xs e = by_cases (ltb (position_or_len p xs) (length xs))
+    (λ t. let f : ◌≡◌ {A = Option ℕ} (Some (position_or_len p xs)) None = rw t at e in cc)
+    (λ t. ltb-false _ _ t)

@@ -1,13 +1,11 @@
 -- Refusals in their order: a fact of a whole call from a fact of each way it may go.
-use Rattle.std.proofs.Common.{◌≡◌, Bool, true, false, not, ltb, length, is_some, Some, Err, refl, ◌∙◌}
+use Rattle.std.proofs.Common.{◌≡◌, Bool, true, false, not, is_some, Err, refl, ◌∙◌}
 use Rattle.std.proofs.lemmas.Bool.{both_ways, not_from_true}
-use Rattle.names.specs.Limits.{block_max}
-use Rattle.names.specs.Names.{Bytes}
 use Rattle.disk.specs.declared.refusal.Refusal.{Refusal}
-use Rattle.disk.specs.declared.refusal.Refusal.TheVariants.{Dark, Long, Full, Same, Missing}
+use Rattle.disk.specs.declared.refusal.Refusal.TheVariants.{Dark, Full, Same, Missing}
 use Rattle.disk.specs.Keys.{KeyId, same_key}
-use Rattle.disk.specs.DiskState.{DiskState, loose, shown}
-use Rattle.disk.specs.Calls.{Answer, unless, done, dark, full, put, renamed, removed, store, rename, remove}
+use Rattle.disk.specs.DiskState.{DiskState, shown}
+use Rattle.disk.specs.Calls.{Answer, unless, done, dark, full, renamed, removed, rename, remove}
 
 pub unless_has : (P : Answer × DiskState → Type 0) (b : Bool) (why : Refusal) (m : DiskState) (x : Answer × DiskState) → P (Err why, m) → (b ≡ false → P x) → P (unless b why m x)
 unless_has P true why m x p q = p
@@ -22,9 +20,6 @@ unless_alike R false why m n x y p q = q refl
 pub past : (b : Bool) (why : Refusal) (m : DiskState) (x : Answer × DiskState) → b ≡ false → unless b why m x ≡ x
 past true why m x e = absurd (both_ways _ e refl)
 past false why m x e = refl
-
-pub store_is : (m : DiskState) (k : KeyId) (bs : Bytes) → dark m ≡ false → ltb block_max (length bs) ≡ false → full m k ≡ false → store m k bs ≡ done (put m k (record { shows = Some bs; mark = loose }))
-store_is m k bs d l f = past (dark m) Dark m _ d ∙ (past (ltb block_max (length bs)) Long m _ l ∙ past (full m k) Full m _ f)
 
 pub remove_is : (m : DiskState) (k : KeyId) → dark m ≡ false → is_some (shown m k) ≡ true → remove m k ≡ done (removed m k)
 remove_is m k d s = past (dark m) Dark m _ d ∙ past (not (is_some (shown m k))) Missing m _ (not_from_true _ s)

@@ -1,4 +1,4 @@
-ghost use Rattle.std.specs.Prelude.{◌≡◌, ◌<◌, [], ◌++◌, length, drop, MatchOption};
+ghost use Rattle.std.specs.Prelude.{◌≡◌, ◌<◌, ◌≤◌, [], ◌++◌, length, drop, MatchOption};
 ghost use Rattle.names.specs.Limits.{block_max};
 
 use inline_vec::InlineVec;
@@ -8,6 +8,7 @@ use names::limits::BLOCK_MAX;
 #[derive(Clone, Copy)]
 pub struct Block {
     bytes: InlineVec<u8, BLOCK_MAX>,
+    ghost short: { length bytes.items ≤ block_max },
 }
 
 impl Block {

@@ -9,7 +9,8 @@ use Rattle.disk.proofs.Lists.{by_cases, same-key_is, same_key_refl}
 use Rattle.disk.proofs.Shown.{other_sym}
 use Rattle.layers.specs.declared.hold.Hold.{Hold}
 use Rattle.layers.specs.Recent.{to_front}
-use Rattle.layers.specs.Holds.{key_is, is_for, forgotten, seek_hold, Says, Agree}
+use Rattle.layers.specs.Holds.{key_is, is_for, forgotten, Says, Agree}
+use Rattle.layers.proofs.Sought.{seek_hold}
 use Rattle.disk.specs.Blocks.{bytes_of}
 
 says_moved : (m n : DiskState) (o : Option Key) (b : Block) → ((k : KeyId) → key_is o k ≡ true → shown n k ≡ shown m k) → Says m o b → Says n o b

@@ -5,7 +5,8 @@ use Rattle.disk.specs.Keys.{KeyId, key_of}
 use Rattle.disk.specs.declared.key.Key.{Key}
 use Rattle.disk.proofs.Lists.{by_cases, same-key_is}
 use Rattle.layers.specs.declared.hold.Hold.{Hold}
-use Rattle.layers.specs.Holds.{holds_max, key_is, is_for, held, seek_hold}
+use Rattle.layers.specs.Holds.{holds_max, key_is, is_for, held}
+use Rattle.layers.proofs.Sought.{seek_hold}
 use Rattle.layers.specs.Recent.{key_in, keys_held, names_key, other_keys, to_front}
 
 pub held-seek : (hs : List Hold) (k : KeyId) → held hs k ≡ true → seek_hold hs k < length hs

@@ -1,4 +1,4 @@
 pub mod Mirrored
+pub mod Sought
 pub mod Agreed
-pub mod Front
 pub mod Latest

@@ -1,13 +1,11 @@
 -- A call on a capped state mirrors the call on the state below, where the cap is not what refuses.
-use Rattle.std.proofs.Common.{◌≡◌, ℕ, ◌≤◌, min, Bool, true, false, not, ◌&&◌, length, is_some, Err, nat_le, nat_lt, sym, refl, ap, ◌∙◌, subst, arith}
+use Rattle.std.proofs.Common.{◌≡◌, ℕ, min, Bool, true, false, not, ◌&&◌, is_some, nat_le, nat_lt, sym, refl, ◌∙◌, subst, arith}
 use Rattle.std.proofs.lemmas.Bool.Decides.{nat_tests}
-use Rattle.std.proofs.lemmas.Bool.{not-false, le-ltb}
-use Rattle.names.specs.Limits.{block_max}
-use Rattle.names.specs.Names.{Bytes}
-use Rattle.disk.specs.declared.refusal.Refusal.TheVariants.{Dark, Long, Full, Same, Missing}
+use Rattle.std.proofs.lemmas.Bool.{not-false}
+use Rattle.disk.specs.declared.refusal.Refusal.TheVariants.{Dark, Full, Same, Missing}
 use Rattle.disk.specs.Keys.{KeyId, same_key}
 use Rattle.disk.specs.DiskState.{DiskState, shown, used_at, count}
-use Rattle.disk.specs.Calls.{Answer, unless, dark, full, store, rename, remove, settle}
+use Rattle.disk.specs.Calls.{Answer, unless, dark, full, rename}
 use Rattle.disk.proofs.Unless.{unless_alike}
 use Rattle.layers.specs.Capped.{capped, Capped, over}
 
@@ -20,32 +18,13 @@ full_alike d true limit cap n e o = refl
 full_alike true false limit cap n e o = grind (arith, nat_tests)
 full_alike false false limit cap n e o = grind (arith, nat_tests)
 
-full_over : (d u : Bool) (limit cap n : ℕ) → (not d && (nat_lt cap limit && (nat_le cap n && not u))) ≡ true → (d ≡ false) × ((not u && nat_le (min limit cap) n) ≡ true)
-full_over d true limit cap n o = grind (arith, nat_tests)
-full_over true false limit cap n o = grind (arith, nat_tests)
-full_over false false limit cap n o = (refl, grind (arith, nat_tests))
-
 module _ (cap : ℕ) (n : DiskState) where
-  pub settle_mirrors : Mirrors cap (settle (capped cap n)) (settle n)
-  settle_mirrors = unless_alike (Mirrors cap) (dark n) Dark (capped cap n) n _ _ (refl, refl) (λ _. (refl, refl))
-
-  pub remove_mirrors : (k : KeyId) → Mirrors cap (remove (capped cap n) k) (remove n k)
-  remove_mirrors k =
-      unless_alike (Mirrors cap) (dark n) Dark (capped cap n) n _ _ (refl, refl) (λ _.
-      unless_alike (Mirrors cap) (not (is_some (shown n k))) Missing (capped cap n) n _ _ (refl, refl) (λ _. (refl, refl)))
-
   -- past a limit that refuses on both or on neither
   past_full : (k : KeyId) (x y : Answer × DiskState) → dark n ≡ false → over cap n k ≡ false → Mirrors cap x y
       → Mirrors cap (unless (full (capped cap n) k) Full (capped cap n) x) (unless (full n k) Full n y)
   past_full k x y d o r =
       let e : full (capped cap n) k ≡ full n k = full_alike (dark n) (used_at n k) n.limit cap (count n) d o in
       rw e (unless_alike (Mirrors cap) (full n k) Full (capped cap n) n _ _ (refl, refl) (λ _. r))
-
-  pub store_mirrors : (k : KeyId) (bs : Bytes) → (nat_lt block_max (length bs) ≡ false → over cap n k ≡ false) → Mirrors cap (store (capped cap n) k bs) (store n k bs)
-  store_mirrors k bs o =
-      unless_alike (Mirrors cap) (dark n) Dark (capped cap n) n _ _ (refl, refl) (λ d.
-      unless_alike (Mirrors cap) (nat_lt block_max (length bs)) Long (capped cap n) n _ _ (refl, refl) (λ l.
-      past_full k _ _ d (o l) (refl, refl)))
 
   pub rename_mirrors : (a b : KeyId) → (dark n ≡ false → same_key a b ≡ false → is_some (shown n a) ≡ true → over cap n b ≡ false) → Mirrors cap (rename (capped cap n) a b) (rename n a b)
   rename_mirrors a b o =
@@ -54,17 +33,6 @@ module _ (cap : ℕ) (n : DiskState) where
       unless_alike (Mirrors cap) (not (is_some (shown n a))) Missing (capped cap n) n _ _ (refl, refl) (λ e.
       past_full b _ _ d (o d s (not-false _ e)) (refl, refl))))
 
-  -- the cap's own refusals
-  pub store_over : (k : KeyId) (bs : Bytes) → length bs ≤ block_max → over cap n k ≡ true → store (capped cap n) k bs ≡ (Err Full, capped cap n)
-  store_over k bs l o =
-      let e = full_over (dark n) (used_at n k) n.limit cap (count n) o in
-      rw (e.0, le-ltb block_max (length bs) l, e.1) refl
-
-  pub rename_over : (a b : KeyId) → same_key a b ≡ false → is_some (shown n a) ≡ true → over cap n b ≡ true → rename (capped cap n) a b ≡ (Err Full, capped cap n)
-  rename_over a b s e o =
-      let f = full_over (dark n) (used_at n b) n.limit cap (count n) o in
-      rw (f.0, s, e, f.1) refl
-
 -- what a layer owes of a call: the answer, and a state that its own is worked out from
 abbrev pub Owed : (DiskState → Type 0) → ℕ → Answer → Answer × DiskState → Type 0
 Owed models cap r p = (r ≡ p.0) × Capped models cap p.1
@@ -72,10 +40,3 @@ Owed models cap r p = (r ≡ p.0) × Capped models cap p.1
 pub passes : (models : DiskState → Type 0) (r : Answer) (cap : ℕ) (f : DiskState → Answer × DiskState) (m n : DiskState) (q : Answer × DiskState)
     → m ≡ capped cap n → Mirrors cap (f (capped cap n)) q → (r ≡ q.0) × models q.1 → Owed models cap r (f m)
 passes models r cap f m n q e l h = subst (λ (z : DiskState). Owed models cap r (f z)) (sym e) (h.0 ∙ sym l.0, (q.1, (h.1, l.1)))
-
-pub refuses : (models : DiskState → Type 0) (r : Answer) (cap : ℕ) (f : DiskState → Answer × DiskState) (m n : DiskState)
-    → m ≡ capped cap n → f (capped cap n) ≡ (r, capped cap n) → models n → Owed models cap r (f m)
-refuses models r cap f m n e l h = subst (λ (z : DiskState). Owed models cap r (f z)) (sym e) (sym (ap (λ (p : Answer × DiskState). p.0) l), (n, (h, ap (λ (p : Answer × DiskState). p.1) l)))
-
-pub over_lit : (cap : ℕ) (n : DiskState) (k : KeyId) → over cap n k ≡ true → dark n ≡ false
-over_lit cap n k o = (full_over (dark n) (used_at n k) n.limit cap (count n) o).0

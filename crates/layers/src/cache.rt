@@ -1,8 +1,9 @@
-ghost use Rattle.std.specs.Prelude.{◌≡◌, ◌<◌, true, false, map, length, Some, None};
+ghost use Rattle.std.specs.Prelude.{◌≡◌, ◌<◌, true, false, map, length, Some, None, MatchOption};
 ghost use Rattle.disk.specs.Keys.{key_of};
 ghost use Rattle.disk.specs.DiskState.{DiskState};
-ghost use Rattle.disk.specs.Calls.{dark, Within, read as read_step, read_into, store as store_step, rename as rename_step, remove as remove_step, settle as settle_step};
-ghost use Rattle.layers.specs.Holds.{holds_max, is_for, held, forgotten, seek_hold, Agree};
+ghost use Rattle.disk.specs.Calls.{dark, Within, store as store_step, rename as rename_step, remove as remove_step, settle as settle_step};
+ghost use Rattle.disk.specs.Steps.{Performs, Reads};
+ghost use Rattle.layers.specs.Holds.{is_for, held, forgotten, hold_of, Agree, Caches};
 ghost use Rattle.layers.specs.Recent.{Recent, to_front};
 
 use crate::hold::Hold;
@@ -16,10 +17,7 @@ impl Hold {
     fn is_for(&self, key: &Key) -> bool
         ensures { result ≡ is_for self.now (key_of key.now) }
     {
-        match &self.key {
-            Some(k) => *k == *key,
-            None => false,
-        }
+        self.key.is_some_and(|held| held == *key)
     }
 
     fn refill(&mut self, key: &Key, block: Block)
@@ -39,23 +37,29 @@ impl Hold {
     }
 }
 
-// The first hold for the key, or the number of holds.
-fn seek(holds: &[Hold], key: &Key) -> usize
-    ensures { result ≡ seek_hold holds.now (key_of key.now) }
+// Holds of which none is for a key.
+fn empty_holds() -> [Hold; HOLDS]
+    ensures { (m : DiskState) → Agree m result }
 {
-    for (i, h) in holds.iter().enumerate() {
-        if h.is_for(key) {
-            return i;
-        }
-    }
-    holds.len()
+    let empty = Hold {
+        key: None,
+        block: Block::empty(),
+    };
+    [empty; HOLDS]
+}
+
+// The first hold for the key.
+fn seek(holds: &[Hold], key: &Key) -> Option<usize>
+    ensures { result ≡ hold_of holds.now (key_of key.now) }
+{
+    holds.iter().position(|hold| hold.is_for(key))
 }
 
 fn forget_all(holds: &mut [Hold], key: &Key)
     ensures { holds.new ≡ map (forgotten (key_of key.now)) holds.old }
 {
-    for h in holds.iter_mut() {
-        h.forget(key);
+    for hold in holds.iter_mut() {
+        hold.forget(key);
     }
 }
 
@@ -64,8 +68,7 @@ fn bring_front(holds: &mut [Hold], i: usize)
     requires { i < length holds.old }
     ensures { (d : Hold) → holds.new ≡ to_front holds.old i d }
 {
-    let front = &mut holds[0..i + 1];
-    front.rotate_right(1);
+    holds[..=i].rotate_right(1);
 }
 
 /// A disk that keeps the last four keys read, with their bytes, the latest first.
@@ -78,33 +81,27 @@ pub struct ReadCache<D: Disk> {
 impl<D: Disk> ReadCache<D> {
     /// The cache over a disk, with nothing held yet.
     pub fn new(below: D) -> ReadCache<D>
-        ensures { (m : DiskState) → D.Disk.models below m → D.Disk.models result.below m × Agree m result.holds }
+        ensures { (m : DiskState) → D.Disk.models below m → Caches D.Disk.models result m }
     {
-        let empty = Hold {
-            key: None,
-            block: Block::empty(),
-        };
         ReadCache {
             below,
-            holds: [empty; HOLDS],
+            holds: empty_holds(),
         }
     }
 
     // The hold that answers a read of the key. At charge 0 none does, so that the disk below says dark.
     fn at_hand(&self, key: &Key) -> Option<usize>
-        ensures { elim result [ None ↦ ((m : DiskState) → D.Disk.models self.now.below m → dark m ≡ false → held self.now.holds (key_of key.now) ≡ false) | Some i ↦ (i ≡ seek_hold self.now.holds (key_of key.now)) × ((i < holds_max) × ((m : DiskState) → D.Disk.models self.now.below m → dark m ≡ false)) ] }
+        ensures { MatchOption result ((m : DiskState) → D.Disk.models self.now.below m → dark m ≡ false → held self.now.holds (key_of key.now) ≡ false) (λ i. (hold_of self.now.holds (key_of key.now) ≡ Some i) × ((m : DiskState) → D.Disk.models self.now.below m → dark m ≡ false)) }
     {
-        let i = seek(&self.holds, key);
-        if i < HOLDS && self.below.count().charge > 0 {
-            Some(i)
-        } else {
-            None
+        if self.below.count().charge == 0 {
+            return None;
         }
+        seek(&self.holds, key)
     }
 }
 
 impl<D: Disk> Disk for ReadCache<D> {
-    ghost models = { λ s m. D.Disk.models s.below m × Agree m s.holds };
+    ghost models = { Caches D.Disk.models };
 
     ghost lawful = { λ s m h. D.Disk.lawful s.below m h.0 };
 
@@ -119,7 +116,7 @@ impl<D: Disk> Disk for ReadCache<D> {
     /// A held key is answered without the disk below, which stays as it is, memory and all.
     fn read(&mut self, key: &Key, into: &mut [u8; BLOCK_MAX]) -> Result<Option<usize>, Refusal>
         ensures bound { Within result }
-        ensures step { (m : DiskState) → D.Disk.models self.old.below m × Agree m self.old.holds → (result ≡ read_step m (key_of key.now)) × ((into.new ≡ read_into m (key_of key.now) into.old) × (D.Disk.models self.new.below m × Agree m self.new.holds)) }
+        ensures step { Reads (Caches D.Disk.models) self.old self.new (key_of key.now) result into.old into.new }
         ensures spared { (m : DiskState) → D.Disk.models self.old.below m → dark m ≡ false → held self.old.holds (key_of key.now) ≡ true → self.new.below ≡ self.old.below }
         ensures recent { Recent result (key_of key.now) self.old.holds self.new.holds }
     {
@@ -127,25 +124,20 @@ impl<D: Disk> Disk for ReadCache<D> {
             bring_front(&mut self.holds, i);
             return Ok(Some(self.holds[0].block.copy_into(into)));
         }
-        match self.below.read(key, into) {
-            Err(why) => Err(why),
-            Ok(got) => match got {
-                None => Ok(None),
-                Some(n) => {
-                    let Some(block) = Block::new(&into[0..n]) else {
-                        return Ok(Some(n));
-                    };
-                    let i = seek(&self.holds, key).min(HOLDS - 1);
-                    bring_front(&mut self.holds, i);
-                    self.holds[0].refill(key, block);
-                    Ok(Some(n))
-                }
-            },
-        }
+        let Some(n) = self.below.read(key, into)? else {
+            return Ok(None);
+        };
+        let Some(block) = Block::new(&into[..n]) else {
+            return Ok(Some(n));
+        };
+        let i = seek(&self.holds, key).unwrap_or(HOLDS - 1);
+        bring_front(&mut self.holds, i);
+        self.holds[0].refill(key, block);
+        Ok(Some(n))
     }
 
     fn store(&mut self, key: &Key, bytes: &[u8]) -> Result<(), Refusal>
-        ensures value { (m : DiskState) → D.Disk.models self.old.below m × Agree m self.old.holds → (result ≡ (store_step m (key_of key.now) bytes.now).0) × (D.Disk.models self.new.below (store_step m (key_of key.now) bytes.now).1 × Agree (store_step m (key_of key.now) bytes.now).1 self.new.holds) }
+        ensures value { Performs (Caches D.Disk.models) self.old self.new result (λ m. store_step m (key_of key.now) bytes.now) }
         ensures holds_after { self.new.holds ≡ map (forgotten (key_of key.now)) self.old.holds }
     {
         forget_all(&mut self.holds, key);
@@ -153,7 +145,7 @@ impl<D: Disk> Disk for ReadCache<D> {
     }
 
     fn rename(&mut self, from: &Key, to: &Key) -> Result<(), Refusal>
-        ensures value { (m : DiskState) → D.Disk.models self.old.below m × Agree m self.old.holds → (result ≡ (rename_step m (key_of from.now) (key_of to.now)).0) × (D.Disk.models self.new.below (rename_step m (key_of from.now) (key_of to.now)).1 × Agree (rename_step m (key_of from.now) (key_of to.now)).1 self.new.holds) }
+        ensures value { Performs (Caches D.Disk.models) self.old self.new result (λ m. rename_step m (key_of from.now) (key_of to.now)) }
         ensures holds_after { self.new.holds ≡ map (forgotten (key_of to.now)) (map (forgotten (key_of from.now)) self.old.holds) }
     {
         forget_all(&mut self.holds, from);
@@ -162,7 +154,7 @@ impl<D: Disk> Disk for ReadCache<D> {
     }
 
     fn remove(&mut self, key: &Key) -> Result<(), Refusal>
-        ensures value { (m : DiskState) → D.Disk.models self.old.below m × Agree m self.old.holds → (result ≡ (remove_step m (key_of key.now)).0) × (D.Disk.models self.new.below (remove_step m (key_of key.now)).1 × Agree (remove_step m (key_of key.now)).1 self.new.holds) }
+        ensures value { Performs (Caches D.Disk.models) self.old self.new result (λ m. remove_step m (key_of key.now)) }
         ensures holds_after { self.new.holds ≡ map (forgotten (key_of key.now)) self.old.holds }
     {
         forget_all(&mut self.holds, key);
@@ -170,18 +162,14 @@ impl<D: Disk> Disk for ReadCache<D> {
     }
 
     fn settle(&mut self) -> Result<(), Refusal>
-        ensures value { (m : DiskState) → D.Disk.models self.old.below m × Agree m self.old.holds → (result ≡ (settle_step m).0) × (D.Disk.models self.new.below (settle_step m).1 × Agree (settle_step m).1 self.new.holds) }
+        ensures value { Performs (Caches D.Disk.models) self.old self.new result settle_step }
         ensures holds_unchanged { self.new.holds ≡ self.old.holds }
     {
         self.below.settle()
     }
 
     fn restart(&mut self, charge: u16, pick: u16) {
-        let empty = Hold {
-            key: None,
-            block: Block::empty(),
-        };
-        self.holds = [empty; HOLDS];
+        self.holds = empty_holds();
         self.below.restart(charge, pick);
     }
 }

@@ -45,10 +45,7 @@ fn shows<D: Disk>(disk: &mut D, key: &Key) -> bool
     ensures { (m : DiskState) → D.Disk.models disk.old m → (dark m ≡ false → result ≡ is_some (shown m (key_of key.now))) × D.Disk.models disk.new m }
 {
     let mut scratch = [0; BLOCK_MAX];
-    match disk.read(key, &mut scratch) {
-        Ok(Some(_)) => true,
-        _ => false,
-    }
+    matches!(disk.read(key, &mut scratch), Ok(Some(_)))
 }
 
 impl<D: Disk> Disk for Quota<D> {
@@ -60,8 +57,7 @@ impl<D: Disk> Disk for Quota<D> {
         let count = self.below.count();
         Count {
             limit: count.limit.min(self.cap),
-            used: count.used,
-            charge: count.charge,
+            ..count
         }
     }
 

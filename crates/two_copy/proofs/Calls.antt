@@ -1,9 +1,8 @@
 -- What the calls owe, over places.
 use Rattle.std.proofs.Common.{◌≡◌, ℕ, suc, ◌-◌, ◌<◌, ◌≤◌, Bool, true, false, not, ◌&&◌, ◌||◌, leb, List, [], ◌∷◌, ◌++◌, map, length, get_or, drop, set, is_some, Some, None, Ok, Err, Option, sym, refl, ap, ◌∙◌, subst, inl, inr, arith}
 use lib.Count.{ones}
-use Rattle.std.proofs.lemmas.Bool.{and_parts, both_ways, not-true, ne_eqb, lt-ltb, le-ltb, le-leb, lt-leb}
-use Rattle.std.proofs.lemmas.List.{length-take}
-use Rattle.disk.specs.declared.refusal.Refusal.TheVariants.{Long, Full}
+use Rattle.std.proofs.lemmas.Bool.{and_parts, both_ways, not-true, ne_eqb, le-ltb, le-leb, lt-leb}
+use Rattle.disk.specs.declared.refusal.Refusal.TheVariants.{Full}
 use Rattle.disk.specs.declared.key.Key.{Key}
 use Rattle.names.specs.Names.{Bytes}
 use Rattle.disk.specs.Keys.{KeyId, same_key, key_of}
@@ -18,7 +17,8 @@ use Rattle.disk.proofs.Lists.{by_cases, same-key_is, same_key_refl}
 use Rattle.disk.specs.declared.block.Block.{Block}
 use Rattle.two_copy.specs.declared.place.Place.{Place}
 use Rattle.disk.specs.Blocks.{bytes_of, content_of}
-use Rattle.two_copy.specs.Places.{used_place, is_at, seek, Copies, copies_at, copies, found, apart, tidy, vacant, slot, refresh, fits}
+use Rattle.two_copy.specs.Places.{used_place, is_at, Copies, copies_at, copies, found, apart, tidy, refresh, fits}
+use Rattle.two_copy.proofs.Sought.{seek, vacant, slot}
 use Rattle.two_copy.specs.Masks.{mask}
 use Rattle.two_copy.specs.Models.{Holds, Models}
 use Rattle.two_copy.proofs.Found.{found-seek, copies-seek, copies_lost, found-used}
@@ -27,7 +27,7 @@ use Rattle.two_copy.proofs.Modelled.{used-found, count_tally, count_ones, put_mo
 
 small_state : (o : Option Block) → Small (content_of o)
 small_state None = tt
-small_state (Some b) = let e = length-take b.len b.bytes in omega (arith, e, b.short)
+small_state (Some b) = b.short
 
 -- what a call answers, and what it leaves
 abbrev pub Owed : Answer → List Place → ℕ → Answer × DiskState → Type 0
@@ -39,9 +39,6 @@ module _ (ps : List Place) (charge : ℕ) (m : DiskState) (h : Models ps charge 
 
   pub settle-done : (charge ≡ 0 → ⊥) → apart ps ≡ true → tidy ps ≡ true → Owed (Ok tt) (map (refresh false) ps) (charge - 1) (settle m)
   settle-done n d t = rw (lit n) (refl, spent_models _ _ _ (settled_models ps charge m h d t))
-
-  pub store_long : (k : KeyId) (bs : Bytes) → (charge ≡ 0 → ⊥) → block_max < length bs → Owed (Err Long) ps charge (store m k bs)
-  store_long k bs n l = rw (lit n, lt-ltb block_max (length bs) l) (refl, h)
 
   -- full, by the slot
   slot_none : (k : KeyId) → apart ps ≡ true → length ps ≤ slot ps k → full m k ≡ true
@@ -213,4 +210,4 @@ module _ (ps : List Place) (charge : ℕ) (m : DiskState) (h : Models ps charge 
       subst (Owed (Ok tt) _ (charge - 1)) (sym (rename_is m a b (lit ps charge m h n) s (there ps charge m h a v) (slot-some ps charge m h b d l))) (refl, spent_models _ _ _ m2)
 
 pub block_fits : (b : Block) (bs : Bytes) → bytes_of b ≡ bs → length bs ≤ block_max
-block_fits b bs e = let l = length-take b.len b.bytes in let n = ap length e in omega (arith, l, n, b.short)
+block_fits b bs e = let n = ap length e in omega (arith, n, b.short)

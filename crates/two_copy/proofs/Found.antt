@@ -7,7 +7,8 @@ use Rattle.disk.proofs.Lists.{by_cases}
 use Rattle.disk.specs.declared.block.Block.{Block}
 use Rattle.two_copy.specs.declared.place.Place.{Place}
 use Rattle.disk.specs.Blocks.{content_of}
-use Rattle.two_copy.specs.Places.{used_place, is_at, seek, Copies, copies_at, copies, found, apart}
+use Rattle.two_copy.specs.Places.{used_place, is_at, Copies, copies_at, copies, found, apart}
+use Rattle.two_copy.proofs.Sought.{seek}
 use Rattle.two_copy.proofs.Masks.{tally}
 
 pub found-seek : (ps : List Place) (k : KeyId) → found ps k ≡ true → seek ps k < length ps

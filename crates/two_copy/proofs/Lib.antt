@@ -1,5 +1,7 @@
 pub mod Masks
+pub mod Sought
 pub mod Found
+pub mod Rooms
 pub mod Slots
 pub mod Refreshes
 pub mod Modelled

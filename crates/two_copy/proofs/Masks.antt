@@ -1,16 +1,12 @@
 -- The number that marks the used places.
-use Rattle.std.proofs.Common.{◌≡◌, ℕ, zero, suc, ◌+◌, ◌*◌, ◌/◌, ◌%◌, ◌^◌, ◌<◌, ◌≤◌, Bool, true, false, cond, List, [], ◌∷◌, length, set, sym, refl, ap, ◌∙◌, mul_comm, pow-suc, arith, pow_mono}
-use mir.Val.{bool_byte}
+use Rattle.std.proofs.Common.{◌≡◌, ℕ, zero, suc, ◌+◌, ◌*◌, ◌/◌, ◌%◌, ◌^◌, ◌<◌, ◌≤◌, Bool, true, false, cond, List, [], ◌∷◌, ◌++◌, length, get_or, take, set, sym, refl, ap, ◌∙◌, mul_comm, pow-suc, arith, pow_mono}
 use lib.Count.{ones, ones_step, ones-le}
+use Rattle.std.proofs.lemmas.List.{take_more, length_push, length-take-le}
 use Rattle.std.proofs.lemmas.Nat.{div-mul-add, mod-mul-add, or_comm, or_shr, or_mod, shr_split}
 use lib.Bits.{bit_or}
 use Rattle.two_copy.specs.declared.place.Place.{Place}
-use Rattle.two_copy.specs.Places.{used_place}
+use Rattle.two_copy.specs.Places.{used_place, idle}
 use Rattle.two_copy.specs.Masks.{mask}
-
-pub bool_byte_lem : (b : Bool) → bool_byte b ≡ cond b 1 0
-bool_byte_lem true = refl
-bool_byte_lem false = refl
 
 pub bit_lt : (b : Bool) → cond b 1 0 < 2
 bit_lt true = omega arith
@@ -73,3 +69,27 @@ mask-set (p ∷ ps) (suc i) q h u =
     let r = mask-set ps i q (omega arith) u in
     let z : 2 * 2 ^ i ≡ 2 * 2 ^ i + cond false 1 0 = omega arith in
     rw (r, pow-suc, mul_comm (2 ^ i) 2) (sym (ap (λ (x : ℕ). bit_or (mask (p ∷ ps)) x) z ∙ (or_parts (mask ps) (2 ^ i) (used_place p) false ∙ rw or_zero refl)))
+
+-- one place more at the end
+mask_unused : (ps : List Place) (q : Place) → used_place q ≡ false → mask (ps ++ q ∷ []) ≡ mask ps
+mask_unused [] q u = rw u (omega arith)
+mask_unused (p ∷ ps) q u = ap (λ n. 2 * n + cond (used_place p) 1 0) (mask_unused ps q u)
+
+set_last : (ps : List Place) (p q : Place) → set (ps ++ p ∷ []) (length ps) q ≡ ps ++ q ∷ []
+set_last [] p q = refl
+set_last (o ∷ ps) p q = ap (λ (xs : List Place). o ∷ xs) (set_last ps p q)
+
+mask_used : (ps : List Place) (q : Place) → used_place q ≡ true → mask (ps ++ q ∷ []) ≡ bit_or (mask ps) (2 ^ length ps)
+mask_used ps q u =
+    let l = length_push ps idle in
+    ap mask (sym (set_last ps idle q)) ∙ (mask-set (ps ++ idle ∷ []) (length ps) q (omega (arith, l)) u ∙ ap (λ (n : ℕ). bit_or n (2 ^ length ps)) (mask_unused ps idle refl))
+
+module _ (ps : List Place) (i : ℕ) (p : Place) (h : i < length ps) (e : p ≡ get_or ps i p) where
+  grown : take (i + 1) ps ≡ take i ps ++ p ∷ []
+  grown = take_more ps i p h ∙ ap (λ (q : Place). take i ps ++ q ∷ []) (sym e)
+
+  pub mask-take_unused : used_place p ≡ false → mask (take i ps) ≡ mask (take (i + 1) ps)
+  mask-take_unused u = sym (ap mask grown ∙ mask_unused (take i ps) p u)
+
+  pub mask-take_used : used_place p ≡ true → bit_or (mask (take i ps)) (2 ^ i) ≡ mask (take (i + 1) ps)
+  mask-take_used u = sym (ap mask grown ∙ (mask_used (take i ps) p u ∙ ap (λ (n : ℕ). bit_or (mask (take i ps)) (2 ^ n)) (length-take-le i ps (omega arith))))

@@ -6,7 +6,8 @@ use Rattle.disk.specs.declared.key.Key.{Key}
 use Rattle.disk.specs.declared.block.Block.{Block}
 use Rattle.disk.proofs.Lists.{by_cases, same-key_is}
 use Rattle.two_copy.specs.declared.place.Place.{Place}
-use Rattle.two_copy.specs.Places.{used_place, seek, Copies, copies_at, copies, found, apart, tidy, slot, fits}
+use Rattle.two_copy.specs.Places.{used_place, Copies, copies_at, copies, found, apart, tidy, fits}
+use Rattle.two_copy.proofs.Sought.{seek, slot}
 use Rattle.two_copy.proofs.Slots.{copies-set, fits-slot, fits-seek}
 use Rattle.two_copy.proofs.Calls.{slot-settled, seek-settled, second_fits, used_not_firm}
 use Rattle.std.proofs.lemmas.Bool.{cond-true, cond-false}

@@ -4,7 +4,8 @@ use Rattle.std.proofs.lemmas.Bool.{and_parts, and_from, both_ways, not-true, or_
 use Rattle.disk.specs.Keys.{KeyId, same_key, key_of}
 use Rattle.disk.proofs.Lists.{by_cases, same-key_is, same_key_sym}
 use Rattle.two_copy.specs.declared.place.Place.{Place}
-use Rattle.two_copy.specs.Places.{used_place, is_at, seek, copies_at, copies, found, apart, tidy, vacant, slot, fits}
+use Rattle.two_copy.specs.Places.{used_place, is_at, copies_at, copies, found, apart, tidy, fits}
+use Rattle.two_copy.proofs.Sought.{seek, vacant, slot}
 use Rattle.two_copy.proofs.Masks.{tally}
 
 -- p is not the place of j, which is another key than k

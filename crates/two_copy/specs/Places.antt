@@ -1,5 +1,7 @@
 -- The places of a two-copy disk: each keeps two contents of one key.
-use Rattle.std.specs.Prelude.{ℕ, zero, suc, ◌/◌, min, Bool, true, false, cond, not, ◌&&◌, ◌||◌, List, [], ◌∷◌, is_some, None}
+use Rattle.std.specs.Prelude.{ℕ, zero, suc, ◌/◌, min, Bool, true, false, cond, not, ◌&&◌, ◌||◌, List, [], ◌∷◌, is_some, None, Option}
+use Rattle.std.specs.List.{position}
+use Rattle.std.specs.Option.{option_or}
 use Rattle.names.specs.Limits.{keys_max}
 use Rattle.disk.specs.Keys.{KeyId, same_key, key_of}
 use Rattle.disk.specs.DiskState.{Content}
@@ -43,19 +45,17 @@ abbrev pub found : List Place → KeyId → Bool
 found [] k = false
 found (p ∷ ps) k = is_at p k || found ps k
 
--- the first place for the key; where there is none, the number of places
-abbrev pub seek : List Place → KeyId → ℕ
-seek [] k = 0
-seek (p ∷ ps) k = cond (is_at p k) 0 (suc (seek ps k))
+-- the first place for the key
+abbrev pub place_of : List Place → KeyId → Option ℕ
+place_of ps k = position (λ p. is_at p k) ps
 
--- the first place that is not used; where there is none, the number of places
-abbrev pub vacant : List Place → ℕ
-vacant [] = 0
-vacant (p ∷ ps) = cond (used_place p) (suc (vacant ps)) 0
+-- the first place that is not used
+abbrev pub vacancy_in : List Place → Option ℕ
+vacancy_in ps = position (λ p. not (used_place p)) ps
 
 -- the place for the key, or else one that is not used
-abbrev pub slot : List Place → KeyId → ℕ
-slot ps k = cond (found ps k) (seek ps k) (vacant ps)
+abbrev pub room_for : List Place → KeyId → Option ℕ
+room_for ps k = option_or (place_of ps k) (vacancy_in ps)
 
 -- a place made firm, at its settled content (`old`) or at its present one
 abbrev pub refresh : Bool → Place → Place

@@ -1,13 +1,13 @@
-ghost use Rattle.std.specs.Prelude.{◌≡◌, ◌%◌, ◌<◌, ◌≤◌, true, false, map, is_some, IfOk, if◌then◌else◌, Some, None, Ok, Err, vec_len, ◌==◌, nat_eq, slice_set};
+ghost use Rattle.std.specs.Prelude.{MatchOption, ◌≡◌, ◌%◌, ◌<◌, ◌≤◌, true, false, map, is_some, IfOk, if◌then◌else◌, Some, None, Ok, Err, vec_len, ◌==◌, nat_eq, slice_set};
 ghost use Rattle.disk.specs.Keys.{KeyId, key_of};
 ghost use Rattle.disk.specs.DiskState.{DiskState, blank};
-ghost use Rattle.disk.specs.Calls.{Within, read as read_step, read_into, store as store_step, rename as rename_step, remove as remove_step, settle as settle_step};
-ghost use Rattle.disk.specs.Restart.{Restarted};
-ghost use Rattle.two_copy.specs.Places.{places_in, copies, found, fits, used_place, refresh, seek as seek_place, slot as slot_place};
+ghost use Rattle.disk.specs.Calls.{Within, store as store_step, rename as rename_step, remove as remove_step, settle as settle_step};
+ghost use Rattle.disk.specs.Steps.{Performs, Reads, Restarts};
+ghost use Rattle.two_copy.specs.Places.{places_in, copies, fits, used_place, refresh, place_of, vacancy_in, room_for};
 ghost use Rattle.two_copy.specs.Described.{Describes, settled_copy, present_copy};
 
 use super::TwoCopy;
-use super::search::{idle_places, marks, refresh_all, seek, slot};
+use super::search::{idle_places, marks, refresh_all};
 use crate::place::Place;
 use disk::{Block, Count, Disk, Key, Refusal};
 use names::limits::{BLOCK_MAX, KEYS_MAX};
@@ -39,32 +39,31 @@ impl TwoCopy {
 
     // The place of the key.
     fn find(&self, key: &Key) -> Option<usize>
-        ensures { elim result [ None ↦ found self.now.places.items (key_of key.now) ≡ false | Some i ↦ (found self.now.places.items (key_of key.now) ≡ true) × ((i ≡ seek_place self.now.places.items (key_of key.now)) × (i < vec_len self.now.places)) ] }
+        ensures { result ≡ place_of self.now.places.items (key_of key.now) }
     {
-        let i = seek(&self.places, key);
-        if i < self.places.len() { Some(i) } else { None }
+        self.places.iter().position(|place| place.is_at(key))
     }
 
     // The place of the key, if it shows something.
     fn shown(&self, key: &Key) -> Option<usize>
-        ensures { elim result [ None ↦ is_some (copies self.now.places.items (key_of key.now)).present ≡ false | Some i ↦ (is_some (copies self.now.places.items (key_of key.now)).present ≡ true) × ((i ≡ seek_place self.now.places.items (key_of key.now)) × (i < vec_len self.now.places)) ] }
+        ensures { MatchOption result (is_some (copies self.now.places.items (key_of key.now)).present ≡ false) (λ i. (is_some (copies self.now.places.items (key_of key.now)).present ≡ true) × (place_of self.now.places.items (key_of key.now) ≡ Some i)) }
     {
-        let Some(i) = self.find(key) else {
-            return None;
-        };
-        if self.places[i].present.is_some() {
-            Some(i)
-        } else {
-            None
-        }
+        let i = self.find(key)?;
+        self.places[i].present.is_some().then_some(i)
     }
 
-    // The place of the key, or else one that is not used.
-    fn room(&self, key: &Key) -> Option<usize>
-        ensures { elim result [ None ↦ vec_len self.now.places ≤ slot_place self.now.places.items (key_of key.now) | Some i ↦ (i ≡ slot_place self.now.places.items (key_of key.now)) × (i < vec_len self.now.places) ] }
+    // The first place that is not used.
+    fn vacant(&self) -> Option<usize>
+        ensures { result ≡ vacancy_in self.now.places.items }
     {
-        let i = slot(&self.places, key);
-        if i < self.places.len() { Some(i) } else { None }
+        self.places.iter().position(|place| !place.is_used())
+    }
+
+    // The place of the key, or else the first that is not used.
+    fn room(&self, key: &Key) -> Option<usize>
+        ensures { result ≡ room_for self.now.places.items (key_of key.now) }
+    {
+        self.find(key).or_else(|| self.vacant())
     }
 
     // Puts the place at an index that its key may have, and marks it used.
@@ -107,7 +106,7 @@ impl Disk for TwoCopy {
 
     fn read(&mut self, key: &Key, into: &mut [u8; BLOCK_MAX]) -> Result<Option<usize>, Refusal>
         ensures bound { Within result }
-        ensures step { (m : DiskState) → Describes self.old m → (result ≡ read_step m (key_of key.now)) × ((into.new ≡ read_into m (key_of key.now) into.old) × Describes self.new m) }
+        ensures step { Reads Describes self.old self.new (key_of key.now) result into.old into.new }
         ensures same { self.new ≡ self.old }
     {
         if self.charge == 0 {
@@ -123,18 +122,14 @@ impl Disk for TwoCopy {
     }
 
     fn store(&mut self, key: &Key, bytes: &[u8]) -> Result<(), Refusal>
-        ensures value { (m : DiskState) → Describes self.old m → (result ≡ (store_step m (key_of key.now) bytes.now).0) × Describes self.new (store_step m (key_of key.now) bytes.now).1 }
+        ensures value { Performs Describes self.old self.new result (λ m. store_step m (key_of key.now) bytes.now) }
         ensures k_unchanged { (k : KeyId) → settled_copy self.new k ≡ settled_copy self.old k }
     {
         if self.charge == 0 {
             return Err(Refusal::Dark);
         }
-        let Some(block) = Block::new(bytes) else {
-            return Err(Refusal::Long);
-        };
-        let Some(i) = self.room(key) else {
-            return Err(Refusal::Full);
-        };
+        let block = Block::new(bytes).ok_or(Refusal::Long)?;
+        let i = self.room(key).ok_or(Refusal::Full)?;
         let settled = self.places[i].settled;
         self.put(
             i,
@@ -150,7 +145,7 @@ impl Disk for TwoCopy {
     }
 
     fn rename(&mut self, from: &Key, to: &Key) -> Result<(), Refusal>
-        ensures value { (m : DiskState) → Describes self.old m → (result ≡ (rename_step m (key_of from.now) (key_of to.now)).0) × Describes self.new (rename_step m (key_of from.now) (key_of to.now)).1 }
+        ensures value { Performs Describes self.old self.new result (λ m. rename_step m (key_of from.now) (key_of to.now)) }
         ensures k_unchanged { (k : KeyId) → settled_copy self.new k ≡ settled_copy self.old k }
     {
         if self.charge == 0 {
@@ -159,12 +154,8 @@ impl Disk for TwoCopy {
         if *from == *to {
             return Err(Refusal::Same);
         }
-        let Some(i) = self.shown(from) else {
-            return Err(Refusal::Missing);
-        };
-        let Some(j) = self.room(to) else {
-            return Err(Refusal::Full);
-        };
+        let i = self.shown(from).ok_or(Refusal::Missing)?;
+        let j = self.room(to).ok_or(Refusal::Full)?;
         let old = self.places[i];
         let settled = self.places[j].settled;
         self.put(
@@ -190,15 +181,13 @@ impl Disk for TwoCopy {
     }
 
     fn remove(&mut self, key: &Key) -> Result<(), Refusal>
-        ensures value { (m : DiskState) → Describes self.old m → (result ≡ (remove_step m (key_of key.now)).0) × Describes self.new (remove_step m (key_of key.now)).1 }
+        ensures value { Performs Describes self.old self.new result (λ m. remove_step m (key_of key.now)) }
         ensures k_unchanged { (k : KeyId) → settled_copy self.new k ≡ settled_copy self.old k }
     {
         if self.charge == 0 {
             return Err(Refusal::Dark);
         }
-        let Some(i) = self.shown(key) else {
-            return Err(Refusal::Missing);
-        };
+        let i = self.shown(key).ok_or(Refusal::Missing)?;
         let settled = self.places[i].settled;
         self.put(
             i,
@@ -214,7 +203,7 @@ impl Disk for TwoCopy {
     }
 
     fn settle(&mut self) -> Result<(), Refusal>
-        ensures value { (m : DiskState) → Describes self.old m → (result ≡ (settle_step m).0) × Describes self.new (settle_step m).1 }
+        ensures value { Performs Describes self.old self.new result settle_step }
         ensures k_after { (k : KeyId) → settled_copy self.new k ≡ elim result [ Ok _ ↦ present_copy self.old k | Err _ ↦ settled_copy self.old k ] }
     {
         if self.charge == 0 {
@@ -226,7 +215,7 @@ impl Disk for TwoCopy {
 
     /// An even pick takes every key's content at the last settle or restart, an odd one its present content.
     fn restart(&mut self, charge: u16, pick: u16)
-        ensures restarted { (m : DiskState) → Describes self.old m → ((n : DiskState) × (Restarted m charge n × Describes self.new n)) }
+        ensures restarted { Restarts Describes self.old self.new charge }
         ensures k_after { (k : KeyId) → present_copy self.new k ≡ (if nat_eq (pick % 2) 0 then settled_copy self.old k else present_copy self.old k) }
     {
         self.refresh(takes_settled(pick), charge);

@@ -1,11 +1,11 @@
-use Rattle.std.proofs.Common.{◌≡◌, true, false, is_some, Err, sym, ◌∙◌}
+use Rattle.std.proofs.Common.{◌≡◌, true, false, is_some, sym, ◌∙◌}
 use Rattle.std.proofs.lemmas.Bool.{both_ways}
-use Rattle.disk.specs.declared.refusal.Refusal.TheVariants.{Full}
 use Rattle.disk.specs.Keys.{key_of, same_key}
 use Rattle.disk.specs.DiskState.{shown}
 use Rattle.disk.specs.Calls.{rename, dark}
+use Rattle.disk.proofs.SameKeys.{eq-same_key}
 use Rattle.layers.specs.Capped.{over}
-use Rattle.layers.proofs.Mirrored.{passes, refuses, rename_mirrors, rename_over, over_lit}
+use Rattle.layers.proofs.Mirrored.{passes, rename_mirrors}
 use Rattle.layers.proofs.quota.QuotaDisk.rename.Goals as goal
 use Rattle.layers.proofs.quota.QuotaDisk.rename.Goals.{then-eq-via-then-eq, then-eq-via-else-eq+then-not-over}
 
@@ -17,28 +17,7 @@ returns-then-eq g c = λ m h.
     let b = key_of c.args.to.now in
     let o : dark n ≡ false → same_key a b ≡ false → is_some (shown n a) ≡ true → over cap n b ≡ false =
     λ d s e. elim c.then-eq.branch [
-      | then-eq-via-then-eq w ↦ absurd (both_ways _ s (sym c.eq.ensures ∙ w.if-eq.true))
+      | then-eq-via-then-eq w ↦ absurd (both_ways _ s (sym (eq-same_key c.args.from.now c.args.to.now) ∙ (sym c.eq.ensures ∙ w.if-eq.true)))
       | then-eq-via-else-eq+then-not-over w ↦ sym (w.over.ensures n h.1.0) ∙ w.if-not-over.true
     ] in
     passes (g.D.Disk.models c.rename.new.self) c.rename.result cap (λ z. rename z a b) m n (rename n a b) h.1.1 (rename_mirrors cap n a b o) (c.rename.ensures n h.1.0)
-
-pub returns-then-shows : goal.returns-then-shows
-returns-then-shows g c = λ m h.
-    let n = h.0 in
-    let cap = c.args.self.now.cap in
-    let a = key_of c.args.from.now in
-    let b = key_of c.args.to.now in
-    let o : over cap n b ≡ true = sym (c.if-not-over.ensures n h.1.0) in
-    let s : same_key a b ≡ false = sym c.if-eq.ensures in
-    let e : is_some (shown n a) ≡ true = sym ((c.if-shows.ensures n h.1.0).0 (over_lit cap n b o)) in
-    refuses (g.D.Disk.models c.shows.new.disk) (Err Full) cap (λ z. rename z a b) m n h.1.1 (rename_over cap n a b s e o) (c.shows.ensures n h.1.0).1
-
-pub returns : goal.returns
-returns g c = λ m h.
-    let n = h.0 in
-    let cap = c.args.self.now.cap in
-    let a = key_of c.args.from.now in
-    let b = key_of c.args.to.now in
-    let o : dark n ≡ false → same_key a b ≡ false → is_some (shown n a) ≡ true → over cap n b ≡ false =
-    λ d s e. absurd (both_ways _ (sym ((c.if-shows.ensures n h.1.0).0 d)) e) in
-    passes (g.D.Disk.models c.rename-2.new.self) c.rename-2.result cap (λ z. rename z a b) m n (rename n a b) h.1.1 (rename_mirrors cap n a b o) (c.rename-2.ensures n (c.shows.ensures n h.1.0).1)

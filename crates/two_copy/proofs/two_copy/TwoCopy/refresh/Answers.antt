@@ -1,4 +1,4 @@
-use Rattle.std.proofs.Common.{◌≡◌, map, length, vec_items, sym, refl, ap, ◌∙◌}
+use Rattle.std.proofs.Common.{◌≡◌, map, length, vec_items, sym, ap, ◌∙◌}
 use Rattle.std.proofs.lemmas.List.{with_items_is, length-map}
 use Rattle.two_copy.specs.Masks.{mask}
 use Rattle.two_copy.specs.Places.{apart, tidy, refresh}
@@ -16,9 +16,3 @@ invariant_of-self c =
       apart = ap apart w ∙ apart-refresh c.args.old (vec_items v) s.apart s.tidy;
       tidy = ap tidy w ∙ tidy-refresh c.args.old (vec_items v);
     }
-
-pub returns : goal.returns
-returns c =
-    let v = c.args.self.now.places in
-    let e : c.refresh_all.new.places ≡ map (refresh c.args.old) (vec_items v) = c.refresh_all.ensures ∙ ap (map (refresh c.args.old)) c.deref_mut.ensures.value in
-    (with_items_is v c.refresh_all.new.places (ap length e ∙ (length-map _ _ ∙ sym v.ok.0)) ∙ e, refl)

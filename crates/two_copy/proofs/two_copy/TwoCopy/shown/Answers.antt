@@ -1,25 +1,19 @@
-use Rattle.std.proofs.Common.{◌≡◌, ℕ, Bool, true, false, List, get_or, is_some, vec_items, sym, ap, ◌∙◌, subst}
-use Rattle.disk.specs.Keys.{KeyId, key_of}
-use Rattle.two_copy.specs.declared.place.Place.{Place}
-use Rattle.two_copy.specs.Places.{seek, found, copies, Copies}
-use Rattle.two_copy.proofs.Found.{copies_lost, some_state}
-use Rattle.two_copy.proofs.Calls.{seek-settled}
+use Rattle.std.proofs.Common.{◌≡◌, Some, is_some, vec_items, sym, ap, ◌∙◌}
+use Rattle.disk.specs.Keys.{key_of}
+use Rattle.two_copy.specs.Places.{Copies, place_of}
+use Rattle.two_copy.proofs.Found.{copies_lost}
+use Rattle.two_copy.proofs.Rooms.{not_placed, at_place, shown_if}
 use Rattle.two_copy.proofs.two_copy.TwoCopy.shown.Goals as goal
 
-pub returns-in_default : goal.returns-in_default
-returns-in_default c = ap (λ (l : Copies). is_some l.present) (copies_lost (vec_items c.args.self.now.places) (key_of c.args.key.now) c.in_default.ensures)
+pub returns-in_err-i : goal.returns-in_err-i
+returns-in_err-i c =
+    let ps = vec_items c.args.self.now.places in
+    let k = key_of c.args.key.now in
+    rw c.from_residual.ensures (ap (λ (l : Copies). is_some l.present) (copies_lost ps k (not_placed ps k (sym c.find.ensures ∙ c.in_err-i.was))))
 
-at_place : (ps : List Place) (k : KeyId) (j : ℕ) (p : Place) (b : Bool) → found ps k ≡ true → j ≡ seek ps k → p ≡ get_or ps j p → b ≡ is_some p.present → is_some (copies ps k).present ≡ b
-at_place ps k j p b f e i h =
-    let x : p ≡ get_or ps (seek ps k) p = subst (λ (z : ℕ). p ≡ get_or ps z p) e i in
-    ap (λ o. is_some o) (sym (seek-settled ps k p f x).1) ∙ (some_state p.present ∙ sym h)
-
-pub returns-then-is_some : goal.returns-then-is_some
-returns-then-is_some c =
-    let f = c.in-Some.ensures in
-    (at_place (vec_items c.args.self.now.places) (key_of c.args.key.now) c.in-Some.i c.index.result.now true f.0 f.1.0 c.index.ensures c.if-is_some.ensures, f.1)
-
-pub returns-else-is_some : goal.returns-else-is_some
-returns-else-is_some c =
-    let f = c.in-Some.ensures in
-    at_place (vec_items c.args.self.now.places) (key_of c.args.key.now) c.in-Some.i c.index.result.now false f.0 f.1.0 c.index.ensures c.if-is_some.ensures
+pub returns : goal.returns
+returns c =
+    let ps = vec_items c.args.self.now.places in
+    let k = key_of c.args.key.now in
+    let e : place_of ps k ≡ Some c.in_ok-i.i = sym c.find.ensures ∙ c.in_ok-i.was in
+    shown_if ps k c.in_ok-i.i c.is_some.result c.then_some.result e (at_place ps k c.in_ok-i.i c.index.result.now c.is_some.result e c.index.ensures c.is_some.ensures) c.then_some.ensures
