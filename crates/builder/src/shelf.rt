@@ -9,7 +9,7 @@ use faults::Cause;
 use names::Name;
 
 /// Where a file stands: as it was laid, or as a script made it.
-#[derive(Clone, Copy)]
+#[derive(Clone, Copy, PartialEq, Eq, Debug)]
 pub enum Shelf {
     Laid,
     Made,
