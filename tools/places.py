@@ -17,13 +17,14 @@ POINTS = {
         ("None for success beside a fault", r"-> Option<(?:Step|ScriptFault)>"),
         ("a flag for success of a call that changes its value", r"fn \w+\(&mut self[^)]*\) -> bool"),
         ("a number for what was not found", r"(?s)return i;\s*\}\s*\}\s*\w+\.len\(\)\s*\}"),
-        ("a number for a kind or a refusal", r"(?:-> u8\b(?! \{)|No\(u8\)|const [A-Z]+: u8 = \d)"),
+        ("a number for a kind or a refusal", r"(?:fn kind\(&self\) -> u8|fn kind_of\(code: u8|No\(u8\)|const (?:MISNAMED|OVERSIZE|UNKNOWN|GARBLED): u8 = \d)"),
+        ("a number for nothing", r"fn (?:laws|candidate_law|worked_cases)\(\) -> u8"),
         ("a flag beside a value that it is about", r"(?:over_long|complete|firm): bool,"),
     ],
     "2": [
         ("a buffer type: an array and how many of its places count", r"pub struct \w+(?:<[^>]*>)? \{[^}]*: \[[^\]]*; \w+\],[^}]*\b(?:len|count|depth): \w+,"),
         ("a cause of its own", r"pub enum Cause\b"),
-        ("reading a decimal", r"fn (?:number|decimal|is_digit|has_lawful_start|may_be_number|number16|number8)\b"),
+        ("reading a decimal", r"fn (?:number|decimal|is_digit|has_lawful_start|may_be_number|number16|number8)\((?!self)"),
         ("cutting at a byte", r"fn (?:cut|divide|blank_at|cut_last|first_word)\b"),
         ("one function in place of another with the same contract", r"fn (?:of_line|dispatch|empty)\b"),
     ],
@@ -69,7 +70,7 @@ def sources(commit):
 
 
 def function_at(text, at):
-    names = re.findall(r"(?:fn|impl|pub (?:struct|enum)) ([\w<>' ]+)", text[: at + 40])
+    names = re.findall(r"\b(?:fn|impl|struct|enum) (?:<[^>]*> )?(\w+(?:<'\w+>)?(?: for \w+)?)", text[: at + 40])
     return names[-1].strip() if names else "-"
 
 
