@@ -1,7 +1,8 @@
 -- A line divided at its first blank.
-use Rattle.std.proofs.Common.{◌≡◌, ℕ, suc, ◌+◌, Bool, true, false, cond, eqb, ltb, [], ◌∷◌, length, take, drop, Some, None, Option, refl, ap, ◌∙◌, ap₂, arith}
+use Rattle.std.proofs.Common.{◌≡◌, ℕ, suc, ◌+◌, ◌-◌, Bool, true, false, cond, eqb, ltb, [], ◌∷◌, length, take, drop, Some, None, Option, sym, refl, ap, ◌∙◌, ap₂, arith}
 use Rattle.std.specs.List.{position, position_or_len}
 use Rattle.std.proofs.lemmas.Bool.{lt-ltb, ltb-true, le-ltb, ltb-false}
+use Rattle.std.proofs.lemmas.List.{take_rest}
 use Rattle.names.specs.Names.{Bytes}
 use Rattle.protocol.specs.Commands.{in_front, divided}
 
@@ -45,9 +46,9 @@ not_given : (bs : Bytes) (t : Bool) (n : ℕ) → cond t (Some n) None ≡ None 
 not_given bs true n e = absurd (let z : ◌≡◌ {A = ℕ} 0 1 = cc in omega arith)
 not_given bs false n e = refl
 
-pub here : (bs : Bytes) (i : ℕ) → position (λ b. eqb b 32) bs ≡ Some i → divided bs ≡ Some (take i bs, drop (i + 1) bs)
+pub here : (bs : Bytes) (i : ℕ) → position (λ b. eqb b 32) bs ≡ Some i → divided bs ≡ Some (take i bs, take (length bs - (i + 1)) (drop (i + 1) bs))
 unfolding parted_at first_blank
-here bs i e = parts_are bs ∙ given bs _ _ i e
+here bs i e = parts_are bs ∙ (given bs _ _ i e ∙ ap (λ t. Some (take i bs, t)) (sym (take_rest bs (i + 1))))
 
 pub nowhere : (bs : Bytes) → position (λ b. eqb b 32) bs ≡ None → divided bs ≡ None
 unfolding parted_at first_blank

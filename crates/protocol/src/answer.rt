@@ -7,7 +7,7 @@ use faults::Trail;
 use std::alloc::{AllocError, Global};
 
 /// What a line is answered.
-#[derive(Clone, Copy)]
+#[derive(Clone, Copy, PartialEq, Eq, Debug)]
 pub enum Answer<'a> {
     /// The call ended well.
     Done,
@@ -29,11 +29,11 @@ fn counts_text(heap: Global, changed: u16, same: u16) -> Result<Vec<u8>, AllocEr
 fn page_text(heap: Global, page: &[u8]) -> Result<Vec<u8>, AllocError>
     ensures { IfOk result (λ v. v.items ≡ codes "page " ++ page_text page.now) }
 {
-    let mut text = Vec::from_slice(heap, b"page ")?;
-    text.extend(page.iter().map(|b| substitute(*b, NEWLINE, BAR)))?;
-    Ok(text)
+    let shown = page.iter().map(|b| substitute(*b, NEWLINE, BAR));
+    b"page ".iter().copied().chain(shown).collect(heap)
 }
 
+#[tactic(auto, using(crate::proofs::Prints::trail_more, crate::proofs::Prints::trail_all))]
 fn refusal_text(heap: Global, number: u8, trail: &Trail) -> Result<Vec<u8>, AllocError>
     ensures { IfOk result (λ v. v.items ≡ codes "no " ++ (decimal number ++ trail_text (steps trail.now))) }
 {

@@ -8,7 +8,7 @@ ghost use Rattle.protocol.specs.Views.{parts, request, Reads};
 use crate::decimal::number;
 
 /// What a line asks for. A name is the line's bytes, not judged yet.
-#[derive(Clone, Copy)]
+#[derive(Clone, Copy, PartialEq, Eq, Debug)]
 pub enum Command<'a> {
     /// Lays a file of this text, in which `|` stands for byte 10.
     Lay { name: &'a [u8], text: &'a [u8] },
