@@ -1,4 +1,4 @@
-ghost use Rattle.std.specs.Prelude.{◌≡◌, ◌+◌, ◌≤◌, ◌<◌, [], ◌∷◌, ◌++◌, length, take, drop, is_ok, OnOk, OnErr, MatchOption, nat_le, nat_lt};
+ghost use Rattle.std.specs.Prelude.{◌≡◌, ◌+◌, ◌≤◌, ◌<◌, [], ◌∷◌, ◌++◌, length, take, drop, is_ok, OnOk, OnErr, MatchOption, nat_eq, nat_le, nat_lt};
 
 use std::marker::Model;
 
@@ -79,6 +79,13 @@ impl<T: Copy, const CAP: usize> InlineVec<T, CAP> {
         ensures fits { result ≤ CAP }
     {
         self.as_slice().len()
+    }
+
+    /// Whether there is no item.
+    pub fn is_empty(&self) -> bool
+        ensures { result ≡ nat_eq (length self.now.items) 0 }
+    {
+        self.len == 0
     }
 
     /// Whether there is no room left.

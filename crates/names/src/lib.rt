@@ -1,6 +1,7 @@
 #![tactic(auto)]
 
 mod judge;
+pub mod laws;
 pub mod limits;
 mod name;
 

@@ -1,12 +1,12 @@
 -- What a line of a preview comes to: its answer, and the laid files behind it.
-use Rattle.std.specs.Prelude.{ℕ, cond, [], ◌∷◌, ◌++◌, map, length, is_some, Some, None, codes, decimal, Option, nat_le}
+use Rattle.std.specs.Prelude.{ℕ, cond, [], ◌∷◌, ◌++◌, map, length, is_some, Some, None, codes, Option, nat_le}
 use Rattle.names.specs.Limits.{page_max}
 use Rattle.names.specs.Names.{Bytes, is_name}
 use Rattle.faults.specs.Trails.{Steps}
 use Rattle.faults.specs.Causes.{number}
 use Rattle.clean.specs.Files.{Files, with_file}
 use Rattle.clean.specs.Evaluate.{Answer, made, failed, clean}
-use Rattle.protocol.specs.Answers.{page_text, trail_text}
+use Rattle.protocol.specs.Answers.{page_text, refusal_text}
 use Rattle.protocol.specs.Commands as command
 use Rattle.protocol.specs.Substitutes.{newline, bar, replaced}
 
@@ -19,7 +19,7 @@ pub data Reply : Type 0 where
 abbrev pub reply_text : Reply → Bytes
 reply_text done = codes "ok"
 reply_text (page b) = codes "page " ++ page_text b
-reply_text (no n trail) = codes "no " ++ (decimal n ++ trail_text trail)
+reply_text (no n trail) = refusal_text n trail
 
 abbrev pub reply_line : Reply → Bytes
 reply_line r = reply_text r ++ (newline ∷ [])

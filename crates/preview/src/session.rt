@@ -1,16 +1,16 @@
-ghost use Rattle.std.specs.Prelude.{◌≡◌, ℕ, ◌<◌, ◌≤◌, [], ◌++◌, map, length, IfOk, MatchOption, MatchResult};
+ghost use Rattle.std.specs.Prelude.{◌≡◌, ◌<◌, ◌≤◌, [], ◌++◌, map, length, MatchOption, MatchResult};
 ghost use Rattle.std.specs.Option.{option_map};
 ghost use Rattle.names.specs.Limits.{page_max};
 ghost use Rattle.names.specs.Names.{Bytes};
-ghost use Rattle.faults.specs.Trails.{Steps, steps};
+ghost use Rattle.faults.specs.Trails.{steps};
 ghost use Rattle.script.specs.Pages.{content};
 ghost use Rattle.clean.specs.Files.{laid};
-ghost use Rattle.protocol.specs.Answers.{answer_line};
-ghost use Rattle.protocol.specs.Substitutes.{newline, bar, replaced};
 ghost use Rattle.clean.specs.Evaluate.{clean};
+ghost use Rattle.protocol.specs.Substitutes.{newline, bar, replaced};
 ghost use Rattle.protocol.specs.Views.{request};
 ghost use Rattle.preview.specs.Session.{laying, taking, paging, answering, command_in, responding, reply_line};
-ghost use Rattle.preview.specs.Replied.{replied};
+ghost use Rattle.preview.specs.Replied.{replied, done_with, page_with, made_with, IfAnswered};
+ghost use Rattle.preview.specs.declared.session.Refused.TheVariants.{Cause as ByCause, OutOfMemory as ByMemory};
 
 use clean::evaluate::clean_page;
 use clean::{Cause, Fault, Files};
@@ -20,21 +20,28 @@ use protocol::{Answer, BAR, Command, NEWLINE};
 use script::Page;
 use std::alloc::AllocError;
 
-/// What a line is answered, its trail aside.
+/// Why a line's call does not end well: it is refused, or there is no memory for it.
 #[derive(Clone, Copy)]
-pub enum Reply {
-    Done,
-    Page(Page),
-    No(u8),
+pub enum Refused {
+    Cause(Cause),
+    OutOfMemory(AllocError),
 }
 
-const MISNAMED: u8 = 1;
+impl From<Cause> for Refused {
+    ghost from_gives = { λ why r. r ≡ ByCause why };
 
-const OVERSIZE: u8 = 2;
+    fn from(why: Cause) -> Refused {
+        Refused::Cause(why)
+    }
+}
 
-const UNKNOWN: u8 = 3;
+impl From<AllocError> for Refused {
+    ghost from_gives = { λ why r. r ≡ ByMemory why };
 
-const GARBLED: u8 = 10;
+    fn from(why: AllocError) -> Refused {
+        Refused::OutOfMemory(why)
+    }
+}
 
 /// The text with byte 10 for each `|`, if it is not too long for a file.
 fn decode(text: &[u8]) -> Option<Page>
@@ -43,50 +50,42 @@ fn decode(text: &[u8]) -> Option<Page>
     let mut page = Page::new();
     for b in text {
         let byte = [substitute(*b, BAR, NEWLINE)];
-        if !page.append(&byte) {
-            return None;
-        }
+        page.append(&byte).ok()?;
     }
     Some(page)
 }
 
 /// Lays a file; `|` in the text stands for byte 10.
-fn lay(files: &mut Files, name: &[u8], text: &[u8]) -> Result<Reply, AllocError>
-    ensures { IfOk result (λ a. (replied a [] ≡ (laying (laid files.old) name.now text.now).0)
+fn lay(files: &mut Files, name: &[u8], text: &[u8]) -> Result<(), Refused>
+    ensures { IfAnswered result (λ r. (replied done_with r [] ≡ (laying (laid files.old) name.now text.now).0)
         × ((n : Bytes) → laid files.new n ≡ (laying (laid files.old) name.now text.now).1 n)) }
 {
-    let Some(name) = Name::new(name) else {
-        return Ok(Reply::No(MISNAMED));
-    };
-    let Some(file) = decode(text) else {
-        return Ok(Reply::No(OVERSIZE));
-    };
+    let name = Name::new(name).ok_or(Cause::Misnamed)?;
+    let file = decode(text).ok_or(Cause::Oversize)?;
     files.lay(name, file)?;
-    Ok(Reply::Done)
+    Ok(())
 }
 
 /// Takes a laid file away.
-fn take(files: &mut Files, name: &[u8]) -> Reply
-    ensures value { replied result [] ≡ (taking (laid files.old) name.now).0 }
+fn take(files: &mut Files, name: &[u8]) -> Result<(), Cause>
+    ensures value { replied done_with result [] ≡ (taking (laid files.old) name.now).0 }
     ensures after { (n : Bytes) → laid files.new n ≡ (taking (laid files.old) name.now).1 n }
 {
-    let Some(name) = Name::new(name) else {
-        return Reply::No(MISNAMED);
-    };
+    let name = Name::new(name).ok_or(Cause::Misnamed)?;
     if files.take(&name) {
-        Reply::Done
+        Ok(())
     } else {
-        Reply::No(UNKNOWN)
+        Err(Cause::Unknown)
     }
 }
 
 /// The clean page of a name.
-fn page(files: &Files, name: &[u8], fault: &mut Fault) -> Reply
-    ensures { replied result (steps fault.new.trail) ≡ paging (clean (laid files.now) name.now) }
+fn page(files: &Files, name: &[u8], fault: &mut Fault) -> Result<Page, Cause>
+    ensures { replied page_with result (steps fault.new.trail) ≡ paging (clean (laid files.now) name.now) }
 {
     match clean_page(files, name, fault) {
-        Ok(page) => Reply::Page(page),
-        Err(_) => Reply::No(fault.cause.number()),
+        Ok(page) => Ok(page),
+        Err(_) => Err(fault.cause),
     }
 }
 
@@ -95,38 +94,25 @@ fn perform(
     files: &mut Files,
     command: Option<Command>,
     fault: &mut Fault,
-) -> Result<Reply, AllocError>
+) -> Result<Option<Page>, Refused>
     requires { steps fault.old.trail ≡ [] }
-    ensures { IfOk result (λ a. (replied a (steps fault.new.trail) ≡ (answering (laid files.old) (option_map request command.entry)).0)
+    ensures { IfAnswered result (λ r. (replied made_with r (steps fault.new.trail) ≡ (answering (laid files.old) (option_map request command.entry)).0)
         × ((n : Bytes) → laid files.new n ≡ (answering (laid files.old) (option_map request command.entry)).1 n)) }
 {
     match command {
-        Some(Command::Lay { name, text }) => lay(files, name, text),
-        Some(Command::Take { name }) => Ok(take(files, name)),
-        Some(Command::Page { name }) => Ok(page(files, name, fault)),
-        _ => Ok(Reply::No(GARBLED)),
+        Some(Command::Lay { name, text }) => lay(files, name, text)?,
+        Some(Command::Take { name }) => take(files, name)?,
+        Some(Command::Page { name }) => return Ok(Some(page(files, name, fault)?)),
+        _ => return Err(Refused::Cause(Cause::Garbled)),
     }
+    Ok(None)
 }
 
 /// The command that a line gives, `None` being an over-long line.
 fn read<'a>(line: Option<&'a [u8]>) -> Option<Command<'a>>
     ensures { option_map request result ≡ command_in (option_map (λ x. x.now) line.entry) }
 {
-    match line {
-        Some(line) => Command::parse(line),
-        None => None,
-    }
-}
-
-/// What a reply prints.
-fn answer_of<'a>(reply: &'a Reply) -> Answer<'a>
-    ensures { (trail : Steps) → answer_line result trail ≡ reply_line (replied reply.now trail) }
-{
-    match reply {
-        Reply::Done => Answer::Done,
-        Reply::Page(page) => Answer::Page(page.as_bytes()),
-        Reply::No(number) => Answer::No(*number),
-    }
+    Command::parse(line?)
 }
 
 /// Answers one line of the input, `None` being an over-long one: what it prints goes behind `out`. Where there is no
@@ -138,7 +124,12 @@ pub fn respond(files: &mut Files, line: Option<&[u8]>, out: &mut Vec<u8>) -> Res
 {
     let mut fault = Fault::new(Cause::Misnamed);
     match perform(files, read(line), &mut fault) {
-        Ok(reply) => answer_of(&reply).print_to(&fault.trail, out),
-        Err(refused) => Err(refused),
+        Ok(None) => Answer::Done.print_to(out),
+        Ok(Some(page)) => Answer::Page(page.as_bytes()).print_to(out),
+        Err(Refused::Cause(cause)) => {
+            fault.cause = cause;
+            Answer::No(&fault).print_to(out)
+        }
+        Err(Refused::OutOfMemory(why)) => Err(why),
     }
 }

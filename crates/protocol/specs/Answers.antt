@@ -1,8 +1,9 @@
 -- What an answer prints: one line.
-use Rattle.std.specs.Prelude.{[], ◌∷◌, ◌++◌, map, codes, decimal}
+use Rattle.std.specs.Prelude.{ℕ, [], ◌∷◌, ◌++◌, map, codes, decimal}
 use Rattle.std.specs.List.{flat_map}
 use Rattle.names.specs.Names.{Bytes}
-use Rattle.faults.specs.Trails.{Steps, frame_text}
+use Rattle.faults.specs.Causes.{number}
+use Rattle.faults.specs.Trails.{Steps, steps, frame_text}
 use Rattle.protocol.specs.Substitutes.{newline, bar, replaced}
 use Rattle.protocol.specs.declared.answer.Answer.{Answer}
 use Rattle.protocol.specs.declared.answer.Answer.TheVariants.{Done, Counts, Page, No}
@@ -15,12 +16,16 @@ page_text page = map (replaced newline bar) page
 abbrev pub trail_text : Steps → Bytes
 trail_text trail = flat_map (λ f. 32 ∷ frame_text f) trail
 
--- the answer without the byte 10 that ends its line; a trail stands behind a refusal's number
-abbrev pub answer_text : Answer → Steps → Bytes
-answer_text Done trail = codes "ok"
-answer_text (Counts changed same) trail = codes "ok " ++ (decimal changed ++ (32 ∷ decimal same))
-answer_text (Page page) trail = codes "page " ++ page_text page.now
-answer_text (No number) trail = codes "no " ++ (decimal number ++ trail_text trail)
+-- a refusal: its number, and the trail behind it
+abbrev pub refusal_text : ℕ → Steps → Bytes
+refusal_text number trail = codes "no " ++ (decimal number ++ trail_text trail)
 
-abbrev pub answer_line : Answer → Steps → Bytes
-answer_line a trail = answer_text a trail ++ (newline ∷ [])
+-- the answer without the byte 10 that ends its line
+abbrev pub answer_text : Answer → Bytes
+answer_text Done = codes "ok"
+answer_text (Counts changed same) = codes "ok " ++ (decimal changed ++ (32 ∷ decimal same))
+answer_text (Page page) = codes "page " ++ page_text page.now
+answer_text (No fault) = refusal_text (number fault.now.cause) (steps fault.now.trail)
+
+abbrev pub answer_line : Answer → Bytes
+answer_line a = answer_text a ++ (newline ∷ [])

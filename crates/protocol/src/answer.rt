@@ -1,13 +1,14 @@
 ghost use Rattle.std.specs.Prelude.{◌≡◌, ◌∷◌, ◌++◌, is_ok, IfOk, if◌then◌else◌, codes, decimal};
+ghost use Rattle.faults.specs.Causes.{number};
 ghost use Rattle.faults.specs.Trails.{steps};
 ghost use Rattle.protocol.specs.Answers.{trail_text, page_text, answer_text, answer_line};
 
 use crate::substitute::{BAR, NEWLINE, substitute};
-use faults::Trail;
+use faults::Fault;
 use std::alloc::{AllocError, Global};
 
 /// What a line is answered.
-#[derive(Clone, Copy, PartialEq, Eq, Debug)]
+#[derive(Clone, Copy)]
 pub enum Answer<'a> {
     /// The call ended well.
     Done,
@@ -15,8 +16,8 @@ pub enum Answer<'a> {
     Counts { changed: u16, same: u16 },
     /// A page.
     Page(&'a [u8]),
-    /// A refusal, by its number.
-    No(u8),
+    /// A refusal, with the trail of a script's fault.
+    No(&'a Fault),
 }
 
 fn counts_text(heap: Global, changed: u16, same: u16) -> Result<Vec<u8>, AllocError>
@@ -34,11 +35,12 @@ fn page_text(heap: Global, page: &[u8]) -> Result<Vec<u8>, AllocError>
 }
 
 #[tactic(auto, using(crate::proofs::Prints::trail_more, crate::proofs::Prints::trail_all))]
-fn refusal_text(heap: Global, number: u8, trail: &Trail) -> Result<Vec<u8>, AllocError>
-    ensures { IfOk result (λ v. v.items ≡ codes "no " ++ (decimal number ++ trail_text (steps trail.now))) }
+fn refusal_text(heap: Global, fault: &Fault) -> Result<Vec<u8>, AllocError>
+    ensures { IfOk result (λ v. v.items ≡ codes "no " ++ (decimal (number fault.now.cause) ++ trail_text (steps fault.now.trail))) }
 {
+    let number = fault.cause.number();
     let mut text = format!(in heap; "no {number}")?;
-    for frame in trail.frames() {
+    for frame in fault.trail.frames() {
         write!(text, " {frame}")?;
     }
     Ok(text.into_bytes())
@@ -46,23 +48,22 @@ fn refusal_text(heap: Global, number: u8, trail: &Trail) -> Result<Vec<u8>, Allo
 
 impl Answer<'_> {
     // The answer without the byte 10 that ends its line.
-    fn text(&self, trail: &Trail, heap: Global) -> Result<Vec<u8>, AllocError>
-        ensures { IfOk result (λ v. v.items ≡ answer_text self.now (steps trail.now)) }
+    fn text(&self, heap: Global) -> Result<Vec<u8>, AllocError>
+        ensures { IfOk result (λ v. v.items ≡ answer_text self.now) }
     {
         match *self {
             Answer::Done => Vec::from_slice(heap, b"ok"),
             Answer::Counts { changed, same } => counts_text(heap, changed, same),
             Answer::Page(page) => page_text(heap, page),
-            Answer::No(number) => refusal_text(heap, number, trail),
+            Answer::No(fault) => refusal_text(heap, fault),
         }
     }
 
-    /// Appends the answer's line to what is to be printed, with the trail behind a refusal's number.
-    /// For want of memory `out` stays as it was.
-    pub fn print_to(&self, trail: &Trail, out: &mut Vec<u8>) -> Result<(), AllocError>
-        ensures { out.new.items ≡ (if is_ok result then out.old.items ++ answer_line self.now (steps trail.now) else out.old.items) }
+    /// Appends the answer's line to what is to be printed. For want of memory `out` stays as it was.
+    pub fn print_to(&self, out: &mut Vec<u8>) -> Result<(), AllocError>
+        ensures { out.new.items ≡ (if is_ok result then out.old.items ++ answer_line self.now else out.old.items) }
     {
-        let mut line = self.text(trail, *out.allocator())?;
+        let mut line = self.text(*out.allocator())?;
         line.push(NEWLINE)?;
         out.extend_from_slice(line.as_slice())
     }

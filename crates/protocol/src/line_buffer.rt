@@ -99,7 +99,7 @@ impl LineBuffer {
         ensures { to_come self.now [] ≡ (if result then held self.now ∷ [] else []) }
     {
         match &self.last {
-            Progress::Open(Some(bytes)) => bytes.len() > 0,
+            Progress::Open(Some(bytes)) => !bytes.is_empty(),
             Progress::Open(None) => true,
             Progress::Ended(_) => false,
         }
