@@ -2,5 +2,5 @@ pub mod Commits
 pub mod Replies
 pub mod Stamps
 pub mod Draws
-pub mod Found
+pub mod Stamped
 pub mod Updates

@@ -9,8 +9,8 @@ abbrev pub Reply : Type 0 → Type 0
 Reply A = Result A Cause × DiskState
 
 -- the reply, and a state that describes the disk after, as the step says of any state that described it before
-abbrev pub Replies : {S : Type 0} → (S → DiskState → Type 0) → S → S → {A : Type 0} → Result A Cause → (DiskState → Reply A) → Type 0
-Replies models old new r step = (m : DiskState) → models old m → (r ≡ (step m).0) × models new (step m).1
+abbrev pub Returns : {S : Type 0} → (S → DiskState → Type 0) → S → S → {A : Type 0} → Result A Cause → (DiskState → Reply A) → Type 0
+Returns models old new r step = (m : DiskState) → models old m → (r ≡ (step m).0) × models new (step m).1
 
 -- refused for that reason, and nothing changed, if the test holds; otherwise what comes next
 abbrev pub refuse : {A : Type 0} → Bool → Cause → DiskState → Reply A → Reply A

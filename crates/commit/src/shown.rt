@@ -1,6 +1,6 @@
 ghost use Rattle.disk.specs.DiskState.{DiskState};
 ghost use Rattle.disk.specs.Keys.{key_of};
-ghost use Rattle.commit.specs.Found.{ShowsAt};
+ghost use Rattle.commit.specs.Stamped.{ShowsAt};
 
 use disk::{Disk, Key, Refusal};
 use inline_vec::InlineVec;

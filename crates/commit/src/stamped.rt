@@ -38,7 +38,7 @@ impl From<Refusal> for ReadError {
 }
 
 impl Stamped {
-    ghost use Rattle.commit.specs.Found.{bytes_of, held_in, Reads};
+    ghost use Rattle.commit.specs.Stamped.{bytes_of, held_in, Reads};
 
     /// The stamp 0 and nothing behind it.
     pub fn empty() -> Stamped

@@ -10,7 +10,7 @@ use Rattle.protocol.specs.Decimals.{number_max, digit, all_digits, starts_well, 
 use Rattle.protocol.specs.Commands.{Request, lay, take, show, build, page, restart, in_front, divided, words, look_up, form_of, named, both_numbers, with_rest, with_form, with_parts, request_of}
 use Rattle.protocol.specs.Forms.{no_blank, Gives}
 use Rattle.protocol.specs.Views.{request, Reads}
-use Rattle.protocol.proofs.Readings.{own}
+use Rattle.protocol.proofs.Readings.{own, digit_bounds}
 use Rattle.protocol.specs.declared.command.Command.{Command}
 use Rattle.protocol.specs.declared.command.Form.{Form}
 use Rattle.protocol.specs.declared.command.Form.TheVariants.{NameAndText, NameAlone, TwoNumbers}
@@ -109,8 +109,7 @@ digits_not_blank : (ds : Bytes) → all_digits ds ≡ true → no_blank ds ≡ t
 digits_not_blank [] h = refl
 digits_not_blank (b ∷ bs) h =
     let k = and_parts (digit b) (all_digits bs) h in
-    let j = and_parts (leb 48 b) (leb b 57) k.0 in
-    let l = leb-true 48 b j.0 in
+    let j = digit_bounds b k.0 in
     and_from (not (eqb b 32)) (no_blank bs) (not_from_false (eqb b 32) (ne_eqb b 32 (λ e. omega arith))) (digits_not_blank bs k.1)
 
 -- words

@@ -14,7 +14,7 @@ use Rattle.protocol.specs.Decimals.{digit, all_digits, starts_well, value_behind
 pub own : IsNumeralModel (λ ds. all_digits ds ≡ true) (value_behind 0)
 own = numerals_by_fold _ (search rules) value_behind (search rules)
 
-digit_bounds : (b : ℕ) → digit b ≡ true → (48 ≤ b) × (b ≤ 57)
+pub digit_bounds : (b : ℕ) → digit b ≡ true → (48 ≤ b) × (b ≤ 57)
 digit_bounds b h = let k = and_parts (nat_le 48 b) (nat_le b 57) h in (leb-true 48 b k.0, leb-true b 57 k.1)
 
 digits_ascii : (bs : Bytes) → all_digits bs ≡ true → IsAscii bs
