@@ -2,8 +2,8 @@
 use Rattle.std.specs.Prelude.{ℕ, cond, not, ◌++◌, length, drop, is_some, Some, None, Ok, Err, Result, nat_le, nat_lt}
 use Rattle.names.specs.Limits.{page_max}
 use Rattle.names.specs.Names.{Bytes, is_name}
-use Rattle.commit.specs.declared.cause.Cause.{Cause}
-use Rattle.commit.specs.declared.cause.Cause.TheVariants.{Misnamed, Oversize, Unknown, Disk, Spoiled, Narrow}
+use Rattle.faults.specs.declared.cause.Cause.{Cause}
+use Rattle.faults.specs.declared.cause.Cause.TheVariants.{Misnamed, Oversize, Unknown, Disk, Spoiled, Narrow}
 use Rattle.disk.specs.declared.refusal.Refusal.TheVariants.{Dark}
 use Rattle.disk.specs.Keys.{KeyId, laid_key, made_key}
 use Rattle.disk.specs.DiskState.{Content, DiskState, shown}
@@ -12,6 +12,8 @@ use Rattle.commit.specs.Commits.{after, commit}
 use Rattle.commit.specs.Replies.{Reply, refuse, bind, pass}
 use Rattle.commit.specs.Stamps.{with_stamp}
 use Rattle.commit.specs.Draws.{draw}
+use Rattle.commit.specs.declared.stamped.ReadError.{ReadError}
+use Rattle.commit.specs.declared.stamped.ReadError.TheVariants.{Disk as Refused, Short}
 use Rattle.builder.specs.declared.shelf.Shelf.{Shelf}
 use Rattle.builder.specs.declared.shelf.Shelf.TheVariants.{Laid, Made}
 
@@ -38,6 +40,11 @@ on_shelf Made n = made_key n
 abbrev pub too_short : Shelf → Cause
 too_short Laid = Spoiled
 too_short Made = Unknown
+
+-- what a read that failed is answered
+abbrev pub unread : Shelf → ReadError → Cause
+unread shelf (Refused why) = Disk why
+unread shelf Short = too_short shelf
 
 -- what a shelf's key shows, without its stamp
 abbrev pub found : Shelf → Content → Result Bytes Cause

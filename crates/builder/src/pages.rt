@@ -3,8 +3,9 @@ ghost use Rattle.disk.specs.DiskState.{DiskState};
 ghost use Rattle.builder.specs.Calls.{page as page_of, told, written};
 
 use crate::shelf::Shelf;
-use commit::{Cause, Found, Stamped};
+use commit::Stamped;
 use disk::Disk;
+use faults::Cause;
 use names::Name;
 use names::limits::PAGE_MAX;
 
@@ -18,21 +19,14 @@ pub fn show<D: Disk>(
 ) -> Result<usize, Cause>
     ensures { (m : DiskState) → D.Disk.models disk.old m → (result ≡ told (page_of m shelf name.now (length page.old))) × ((page.new ≡ written (page_of m shelf name.now (length page.old)) page.old) × D.Disk.models disk.new m) }
 {
-    let Some(name) = Name::new(name) else {
-        return Err(Cause::Misnamed);
-    };
+    let name = Name::new(name).ok_or(Cause::Misnamed)?;
     if page.len() < PAGE_MAX {
         return Err(Cause::Narrow);
     }
-    let mut file = Stamped::empty();
-    match file.read(disk, &shelf.key(name))? {
-        Found::Nothing => Err(Cause::Unknown),
-        Found::Short => Err(shelf.too_short()),
-        Found::Whole => {
-            let content = file.content();
-            let len = content.len();
-            page[0..len].copy_from_slice(content);
-            Ok(len)
-        }
-    }
+    let file = Stamped::read(disk, &shelf.key(name))
+        .map_err(|why| shelf.cause(why))?
+        .ok_or(Cause::Unknown)?;
+    let content = file.content();
+    page[..content.len()].copy_from_slice(content);
+    Ok(content.len())
 }

@@ -1,14 +1,15 @@
 ghost use Rattle.std.specs.Prelude.{◌≡◌};
 ghost use Rattle.names.specs.Spelled.{spelled};
 ghost use Rattle.disk.specs.Keys.{key_of};
-ghost use Rattle.builder.specs.Calls.{on_shelf, too_short};
+ghost use Rattle.builder.specs.Calls.{on_shelf, unread};
 
-use commit::Cause;
+use commit::ReadError;
 use disk::Key;
+use faults::Cause;
 use names::Name;
 
 /// Where a file stands: as it was laid, or as a script made it.
-#[derive(Clone, Copy)]
+#[derive(Clone, Copy, PartialEq, Eq, Debug)]
 pub enum Shelf {
     Laid,
     Made,
@@ -25,13 +26,14 @@ impl Shelf {
         }
     }
 
-    // What a file on the shelf is that has too few bytes for a stamp.
-    pub(crate) fn too_short(self) -> Cause
-        ensures { result ≡ too_short self }
+    // Why a file on the shelf is not shown that was not read.
+    pub(crate) fn cause(self, why: ReadError) -> Cause
+        ensures { result ≡ unread self why }
     {
-        match self {
-            Shelf::Laid => Cause::Spoiled,
-            Shelf::Made => Cause::Unknown,
+        match (self, why) {
+            (_, ReadError::Disk(why)) => Cause::Disk(why),
+            (Shelf::Laid, ReadError::Short) => Cause::Spoiled,
+            (Shelf::Made, ReadError::Short) => Cause::Unknown,
         }
     }
 }

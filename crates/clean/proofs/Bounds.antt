@@ -25,7 +25,7 @@ use Rattle.clean.specs.Status.{Status, absent, source, target, status}
 use Rattle.clean.specs.Evaluate.{Outcome, page as paged, fault, taken, if_wanted, follow, evaluate, made, failed, as_answer, answer}
 use Rattle.clean.specs.Trace.{Question, asked, asked_on, asked_if}
 use Rattle.clean.specs.Laws.{PagesAreShort, RunsMakeFewEntries, TrailsEndInTheTarget}
-use Rattle.clean.specs.declared.fault.Cause.TheVariants.{Misnamed, Script as InScript}
+use Rattle.faults.specs.declared.cause.Cause.TheVariants.{Misnamed, Script as InScript}
 use Rattle.clean.proofs.Drives.{trail_length, evaluate-length}
 
 -- ---- pages

@@ -1,9 +1,10 @@
 -- A run that is driven to its end comes to what clean evaluation says.
 use Rattle.std.proofs.Common.{◌≡◌, ℕ, zero, suc, ◌+◌, ◌-◌, ◌<◌, ◌≤◌, Bool, true, false, cond, leb, List, [], ◌∷◌, ◌++◌, length, take, is_some, Some, None, Option, sym, refl, ap, ◌∙◌, subst, add-one, arith}
 use Rattle.std.proofs.lemmas.List.{take_all, length_push}
-use Rattle.std.proofs.lemmas.Bool.{leb-true}
+use Rattle.std.proofs.lemmas.Bool.{leb-true, leb-false}
 use Rattle.names.specs.Limits.{depth_max}
-use Rattle.names.specs.Names.{Bytes}
+use Rattle.names.specs.Names.{Bytes, is_name}
+use Rattle.faults.specs.Causes.{extended}
 use Rattle.faults.specs.Trails.{Steps}
 use Rattle.faults.specs.declared.fault.ScriptFault.{ScriptFault}
 use Rattle.faults.specs.declared.fault.ScriptFault.TheVariants.{Cycle, TooDeep, TooManyEntries}
@@ -18,14 +19,15 @@ use Rattle.script.specs.declared.word.Word.{Word}
 use Rattle.script.proofs.Scripts.{Scripts, scripts}
 use Rattle.clean.specs.Files.{Files}
 use Rattle.clean.specs.Status.{Status, absent, source, target, plain, status, is_absent}
-use Rattle.clean.specs.Evaluate.{Outcome, page, fault, framed, taken, if_wanted, follow, yields, member, lacking_in, evaluate, failed, as_answer}
+use Rattle.clean.specs.Evaluate.{Outcome, page, fault, framed, taken, if_wanted, follow, yields, member, lacking_in, evaluate, failed, as_answer, answer, clean}
 use Rattle.clean.specs.Opening.{Opening, begins, stops, tried, opening}
-use Rattle.clean.specs.Answered.{gets, finished}
+use Rattle.clean.specs.Answered.{told_of, gets, finished}
 use Rattle.clean.specs.Told.{told}
 use Rattle.clean.specs.declared.status.Status as memory
 use Rattle.clean.specs.declared.status.Status.TheVariants.{Absent as NotHere, Source as FromSource, Target as AsTarget}
-use Rattle.clean.specs.declared.fault.Cause.{Cause}
-use Rattle.clean.specs.declared.fault.Cause.TheVariants.{Script as InScript}
+use Rattle.faults.specs.declared.cause.Cause.{Cause}
+use Rattle.faults.specs.declared.failure.Fault.{Fault}
+use Rattle.faults.specs.declared.cause.Cause.TheVariants.{Misnamed, Script as InScript}
 
 script-status : (laid : Files) (n : Bytes) → candidates n ≡ [] → status laid n ≡ plain (laid n)
 unfolding status
@@ -138,7 +140,7 @@ gets-length laid chain n = yields-length chain (evaluate laid (depth_max - lengt
 
 -- a fault that a needed name yields passes through the line that asked
 pub passed : (laid : Files) (chain : List Bytes) (t n : Bytes) (l : ℕ) (c : Cause) (s s' : Steps) (o : Outcome)
-    → 0 < length chain → failed c s ≡ as_answer (gets laid chain n) → s' ≡ take depth_max (s ++ ((t, l) ∷ []))
+    → 0 < length chain → failed c s ≡ as_answer (gets laid chain n) → s' ≡ extended c s t l
     → ((f : ScriptFault) (u : Steps) → gets laid chain n ≡ fault f u → o ≡ framed t l f u)
     → failed c s' ≡ as_answer o
 passed laid chain t n l c s s' o h e p k = through (gets laid chain n) (gets-length laid chain n) e k
@@ -151,7 +153,7 @@ passed laid chain t n l c s s' o h e p k = through (gets laid chain n) (gets-len
         let w : c ≡ InScript f = cc in
         let j : length s ≤ depth_max - length chain = subst (λ (x : Steps). length x ≤ depth_max - length chain) (sym q) m in
         let x : s' ≡ u ++ ((t, l) ∷ []) =
-        p ∙ (take_all depth_max (s ++ ((t, l) ∷ [])) (omega (arith, length_push s (t, l))) ∙ ap (λ (y : Steps). y ++ ((t, l) ∷ [])) q) in
+        p ∙ (ap (λ (k : Cause). extended k s t l) w ∙ take_all depth_max (s ++ ((t, l) ∷ [])) (omega (arith, length_push s (t, l))) ∙ ap (λ (y : Steps). y ++ ((t, l) ∷ [])) q) in
         (λ i. failed (w i) (x i)) ∙ sym (ap as_answer (k f u refl))
 
 -- ---- a question, told
@@ -171,12 +173,34 @@ there NotHere h = absurd (h refl)
 there (FromSource b) h = refl
 there AsTarget h = refl
 
--- the run that a search opened, under the longer chain
-pub opened-run : (laid : Files) (chain longer : List Bytes) (t stem text : Bytes) (es : Entries) (v : Point) → length chain < depth_max
-    → v ≡ record { stem = stem; mode = Running; line = 0; made = es; page = []; rest = text } → longer ≡ chain ++ (t ∷ [])
-    → begins stem text es ≡ opening laid (candidates t) [] → finished laid longer t (tree_of v) ≡ evaluate laid (depth_max - length chain) chain t
-opened-run laid chain longer t stem text es v h e q o =
-    ap (λ (x : Point). finished laid longer t (tree_of x)) e
-    ∙ (ap (λ (x : List Bytes). finished laid x t (run stem Running 1 es [] (lines text))) q
-    ∙ (ap (from_opening laid (chain ++ (t ∷ [])) t) o
-    ∙ (sym (whole_opens laid (chain ++ (t ∷ [])) t) ∙ sym (evaluate_open laid chain t h))))
+-- the run that a search opened
+pub opened-run : (laid : Files) (chain : List Bytes) (t stem text : Bytes) (es : Entries) (v : Point)
+    → v ≡ record { stem = stem; mode = Running; line = 0; made = es; page = []; rest = text }
+    → begins stem text es ≡ opening laid (candidates t) [] → finished laid chain t (tree_of v) ≡ finished laid chain t (whole_run t)
+opened-run laid chain t stem text es v e o =
+    ap (λ (x : Point). finished laid chain t (tree_of x)) e
+    ∙ (ap (from_opening laid chain t) o ∙ sym (whole_opens laid chain t))
+
+-- the fault that stops a search
+pub stopped-run : (laid : Files) (chain : List Bytes) (t : Bytes) (f : Fault)
+    → (why : ScriptFault) × (opening laid (candidates t) [] ≡ stops why) × (told_of f ≡ failed (InScript why) ((t, 0) ∷ []))
+    → told_of f ≡ as_answer (finished laid chain t (whole_run t))
+stopped-run laid chain t f (why, o, e) =
+    e ∙ sym (ap as_answer (whole_opens laid chain t ∙ ap (from_opening laid chain t) o))
+
+-- a needed target is opened under the chain that ends in it
+pub deeper : (laid : Files) (chain longer : List Bytes) (n : Bytes) → status laid n ≡ target → member n chain ≡ false → leb depth_max (length chain) ≡ false
+    → longer ≡ take depth_max (chain ++ (n ∷ [])) → finished laid longer n (whole_run n) ≡ gets laid chain n
+deeper laid chain longer n s m f q =
+    let h : length chain < depth_max = leb-false depth_max (length chain) f in
+    ap (λ (x : List Bytes). finished laid x n (whole_run n)) (q ∙ take_all depth_max (chain ++ (n ∷ [])) (omega (arith, length_push chain n, h)))
+    ∙ (sym (evaluate_open laid chain n h)
+    ∙ (sym (ap (λ (b : Bool). cond b (fault Cycle []) (evaluate laid (depth_max - length chain) chain n)) m)
+    ∙ sym (ap (yields chain (evaluate laid (depth_max - length chain) chain) n) s)))
+
+-- a target that is asked for is opened alone
+pub asked_alone : (laid : Files) (n : Bytes) (longer : List Bytes) → is_name n ≡ true → status laid n ≡ target → longer ≡ take depth_max (n ∷ [])
+    → as_answer (finished laid longer n (whole_run n)) ≡ clean laid n
+asked_alone laid n longer y s q =
+    ap as_answer (ap (λ (x : List Bytes). finished laid x n (whole_run n)) q ∙ sym (evaluate_open laid [] n (omega arith)))
+    ∙ sym (ap (λ (b : Bool). cond b (answer laid n (status laid n)) (failed Misnamed [])) y ∙ ap (answer laid n) s)

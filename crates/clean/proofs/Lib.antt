@@ -5,3 +5,4 @@ pub mod Alone
 pub mod Bounds
 pub mod Local
 pub mod Skips
+pub mod Scripted

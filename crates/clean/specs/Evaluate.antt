@@ -9,8 +9,8 @@ use Rattle.faults.specs.declared.fault.ScriptFault.TheVariants.{Absent as NotThe
 use Rattle.script.specs.Tree.{Tree, done, stop, ask, Offer, wanted, refused}
 use Rattle.script.specs.Search.{whole_run}
 use Rattle.clean.specs.Files.{Files}
-use Rattle.clean.specs.declared.fault.Cause.{Cause}
-use Rattle.clean.specs.declared.fault.Cause.TheVariants.{Misnamed, Unknown, Plain, Script}
+use Rattle.faults.specs.declared.cause.Cause.{Cause}
+use Rattle.faults.specs.declared.cause.Cause.TheVariants.{Misnamed, Unknown, Plain, Script}
 use Rattle.clean.specs.Status.{Status, absent, source, target, status, is_absent}
 
 -- a run ends with a page, or with a fault and its trail: each open target with its line, innermost first

@@ -15,7 +15,7 @@ use Rattle.script.specs.Search.{whole_run}
 use Rattle.clean.specs.Files.{Files}
 use Rattle.clean.specs.Evaluate.{Outcome, page, follow, evaluate, made, failed, clean}
 use Rattle.clean.specs.Trace.{asked, questions, Agree}
-use Rattle.clean.specs.declared.fault.Cause.TheVariants.{Script}
+use Rattle.faults.specs.declared.cause.Cause.TheVariants.{Script}
 
 -- The line behind an `ifhas` of an absent name may be any line.
 abbrev pub SkippedLinesDoNothing : Type 0

@@ -1,13 +1,11 @@
 ghost use Rattle.clean.specs.Laws.{SkippedLinesDoNothing, EvaluationIsLocal, PagesAreMadeAlone, PagesAreShort, RunsMakeFewEntries, TrailsEndInTheTarget};
 
 /// The laws of clean evaluation.
-pub fn laws() -> u8
+pub fn laws()
     ensures skipped { SkippedLinesDoNothing }
     ensures local { EvaluationIsLocal }
     ensures alone { PagesAreMadeAlone }
     ensures short { PagesAreShort }
     ensures few { RunsMakeFewEntries }
     ensures trails { TrailsEndInTheTarget }
-{
-    0
-}
+{}

@@ -1,4 +1,4 @@
-ghost use Rattle.std.specs.Prelude.{◌≡◌};
+ghost use Rattle.std.specs.Prelude.{◌≡◌, is_some};
 ghost use Rattle.names.specs.Spelled.{spelled};
 ghost use Rattle.script.specs.Candidates.{candidates as all_candidates};
 ghost use Rattle.clean.specs.Files.{laid};
@@ -21,13 +21,11 @@ pub enum Status {
 fn has_script(files: &Files, name: &Name) -> bool
     ensures { result ≡ any_laid (laid files.now) (all_candidates (spelled name.now)) }
 {
-    let mut candidates = Candidates::new(*name);
-    while let Some(candidate) = candidates.next() {
-        if files.get(&candidate.script).is_some() {
-            return true;
-        }
-    }
-    false
+    Candidates::new(*name).any(|candidate| -> bool
+        ensures { result ≡ is_some (laid files.entry.now (spelled candidate.script)) }
+    {
+        files.get(&candidate.script).is_some()
+    })
 }
 
 impl Status {

@@ -1,3 +1,2 @@
-pub mod Stamps
 pub mod Ways
 pub mod Updates

@@ -1,11 +1,17 @@
 -- What it is to commit bytes to a key: they are stored in the draft, settled, and the draft is renamed to the key, which
 -- is settled too.
-use Rattle.std.specs.Prelude.{Ok, Err}
+use Rattle.std.specs.Prelude.{Ok, Err, Result}
 use Rattle.names.specs.Names.{Bytes}
+use Rattle.disk.specs.declared.refusal.Refusal.{Refusal}
 use Rattle.disk.specs.declared.refusal.Refusal.TheVariants.{Dark, Long, Full, Same, Missing}
 use Rattle.disk.specs.Keys.{KeyId, draft_key}
 use Rattle.disk.specs.DiskState.{DiskState}
 use Rattle.disk.specs.Calls.{Answer, store, rename, remove, settle}
+
+-- a disk's word, whatever is given with it
+abbrev pub answer_of : {A : Type 0} → Result A Refusal → Answer
+answer_of (Ok a) = Ok tt
+answer_of (Err why) = Err why
 
 -- the next step, unless the one before was refused
 abbrev pub after : Answer × DiskState → (DiskState → Answer × DiskState) → Answer × DiskState

@@ -2,8 +2,8 @@
 use Rattle.std.specs.Prelude.{ℕ, ◌+◌, cond, Some, None, Ok, Err, Option, Result, nat_le}
 use Rattle.names.specs.Limits.{stamp_max}
 use Rattle.record.specs.Written.{four}
-use Rattle.commit.specs.declared.cause.Cause.{Cause}
-use Rattle.commit.specs.declared.cause.Cause.TheVariants.{Disk, Spent, Spoiled}
+use Rattle.faults.specs.declared.cause.Cause.{Cause}
+use Rattle.faults.specs.declared.cause.Cause.TheVariants.{Disk, Spent, Spoiled}
 use Rattle.disk.specs.declared.refusal.Refusal.TheVariants.{Dark}
 use Rattle.disk.specs.Keys.{stamp_key}
 use Rattle.disk.specs.DiskState.{DiskState, shown}

@@ -1,4 +1,3 @@
-pub mod Causes
 pub mod Commits
 pub mod Replies
 pub mod Stamps

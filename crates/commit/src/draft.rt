@@ -1,8 +1,7 @@
-ghost use Rattle.std.specs.Prelude.{◌≡◌, Ok, Err};
-ghost use Rattle.disk.specs.DiskState.{DiskState};
 ghost use Rattle.disk.specs.Keys.{key_of, draft_key};
 ghost use Rattle.disk.specs.Calls.{store};
-ghost use Rattle.commit.specs.Commits.{abandon as abandon_step, finish as finish_step, commit as commit_step};
+ghost use Rattle.disk.specs.Steps.{Performs};
+ghost use Rattle.commit.specs.Commits.{answer_of, abandon as abandon_step, finish as finish_step, commit as commit_step};
 
 use disk::{Disk, Key, Refusal};
 
@@ -11,10 +10,18 @@ pub struct Draft {
     open: (),
 }
 
+// Removes the draft, as far as the charge goes.
+fn discard<D: Disk>(disk: &mut D) -> Result<(), Refusal>
+    ensures { Performs D.Disk.models disk.old disk.new result abandon_step }
+{
+    disk.remove(&Key::Draft)?;
+    disk.settle()
+}
+
 impl Draft {
     /// Stores the bytes in the draft.
     pub fn open<D: Disk>(disk: &mut D, bytes: &[u8]) -> Result<Draft, Refusal>
-        ensures { (m : DiskState) → D.Disk.models disk.old m → (elim result [ Ok t ↦ (store m draft_key bytes.now).0 ≡ Ok tt | Err e ↦ (store m draft_key bytes.now).0 ≡ Err e ]) × D.Disk.models disk.new (store m draft_key bytes.now).1 }
+        ensures { Performs D.Disk.models disk.old disk.new (answer_of result) (λ m. store m draft_key bytes.now) }
     {
         disk.store(&Key::Draft, bytes)?;
         Ok(Draft { open: () })
@@ -22,42 +29,31 @@ impl Draft {
 
     /// Removes the draft, as far as the charge goes.
     pub fn abandon<D: Disk>(self, disk: &mut D) -> Result<(), Refusal>
-        ensures { (m : DiskState) → D.Disk.models disk.old m → (result ≡ (abandon_step m).0) × D.Disk.models disk.new (abandon_step m).1 }
+        ensures { Performs D.Disk.models disk.old disk.new result abandon_step }
     {
         let Draft { open: () } = self;
-        disk.remove(&Key::Draft)?;
-        disk.settle()
+        discard(disk)
     }
 
     /// Settles the draft and makes it the key's bytes. Where the disk is full for that, the draft is abandoned.
     pub fn commit<D: Disk>(self, disk: &mut D, key: &Key) -> Result<(), Refusal>
-        ensures { (m : DiskState) → D.Disk.models disk.old m → (result ≡ (finish_step m (key_of key.now)).0) × D.Disk.models disk.new (finish_step m (key_of key.now)).1 }
+        ensures { Performs D.Disk.models disk.old disk.new result (λ m. finish_step m (key_of key.now)) }
     {
-        if let Err(why) = disk.settle() {
-            let Draft { open: () } = self;
+        let Draft { open: () } = self;
+        disk.settle()?;
+        if let Err(why) = disk.rename(&Key::Draft, key) {
+            if why == Refusal::Full {
+                let _ = discard(disk);
+            }
             return Err(why);
         }
-        match disk.rename(&Key::Draft, key) {
-            Ok(()) => {
-                let Draft { open: () } = self;
-                disk.settle()
-            }
-            Err(Refusal::Full) => {
-                let _ = self.abandon(disk);
-                Err(Refusal::Full)
-            }
-            Err(why) => {
-                let Draft { open: () } = self;
-                Err(why)
-            }
-        }
+        disk.settle()
     }
 }
 
 /// Commits the bytes to the key: a cut leaves the key as it was or with all of them.
 pub fn commit<D: Disk>(disk: &mut D, key: &Key, bytes: &[u8]) -> Result<(), Refusal>
-    ensures { (m : DiskState) → D.Disk.models disk.old m → (result ≡ (commit_step m (key_of key.now) bytes.now).0) × D.Disk.models disk.new (commit_step m (key_of key.now) bytes.now).1 }
+    ensures { Performs D.Disk.models disk.old disk.new result (λ m. commit_step m (key_of key.now) bytes.now) }
 {
-    let draft = Draft::open(disk, bytes)?;
-    draft.commit(disk, key)
+    Draft::open(disk, bytes)?.commit(disk, key)
 }

@@ -1,13 +1,12 @@
 //! Drafts, commits and stamps.
 #![tactic(auto)]
 
-mod cause;
 mod draft;
 pub mod laws;
+mod shown;
 pub mod stamp;
 mod stamped;
 
-pub use cause::Cause;
 pub use draft::{Draft, commit};
 pub use stamp::draw;
-pub use stamped::{Found, Stamped};
+pub use stamped::{ReadError, Stamped};

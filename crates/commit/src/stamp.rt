@@ -1,35 +1,29 @@
-ghost use Rattle.std.specs.Prelude.{◌≡◌};
-ghost use Rattle.disk.specs.DiskState.{DiskState};
+ghost use Rattle.commit.specs.Replies.{Replies};
 ghost use Rattle.commit.specs.Draws.{last_stamp, draw as draw_step};
 
-use crate::cause::Cause;
 use crate::draft::commit;
+use crate::shown::shown;
 use disk::{Disk, Key};
-use names::limits::{BLOCK_MAX, STAMP_MAX};
+use faults::Cause;
+use names::limits::STAMP_MAX;
 
 /// The bytes of a stamp.
 pub const STAMP_SIZE: usize = 4;
 
 /// The last stamp drawn, 0 where there is none.
 fn read_last<D: Disk>(disk: &mut D) -> Result<u32, Cause>
-    ensures { (m : DiskState) → D.Disk.models disk.old m → (result ≡ last_stamp m) × D.Disk.models disk.new m }
+    ensures { Replies D.Disk.models disk.old disk.new result (λ m. (last_stamp m, m)) }
 {
-    let mut bytes = [0; BLOCK_MAX];
-    match disk.read(&Key::Stamp, &mut bytes) {
-        Err(why) => Err(Cause::Disk(why)),
-        Ok(None) => Ok(0),
-        Ok(Some(len)) => {
-            if len != STAMP_SIZE {
-                return Err(Cause::Spoiled);
-            }
-            Ok(u32::from_le_bytes([bytes[0], bytes[1], bytes[2], bytes[3]]))
-        }
-    }
+    let Some(bytes) = shown(disk, &Key::Stamp)? else {
+        return Ok(0);
+    };
+    let stamp = bytes.as_slice().as_array().ok_or(Cause::Spoiled)?;
+    Ok(u32::from_le_bytes(*stamp))
 }
 
 /// Draws a stamp: the number behind the last, which is committed before it is used.
 pub fn draw<D: Disk>(disk: &mut D) -> Result<u32, Cause>
-    ensures { (m : DiskState) → D.Disk.models disk.old m → (result ≡ (draw_step m).0) × D.Disk.models disk.new (draw_step m).1 }
+    ensures { Replies D.Disk.models disk.old disk.new result draw_step }
 {
     let last = read_last(disk)?;
     if last >= STAMP_MAX {

@@ -1,5 +1,5 @@
 -- A trail: each open target with its line, innermost first.
-use Rattle.std.specs.Prelude.{List, map, ℕ, take}
+use Rattle.std.specs.Prelude.{List, ◌∷◌, ◌++◌, map, ℕ, decimal}
 use Rattle.names.specs.Names.{Bytes}
 use Rattle.names.specs.Spelled.{spelled}
 use Rattle.faults.specs.declared.frame.Frame.{Frame}
@@ -12,4 +12,8 @@ abbrev pub step : Frame → Bytes × ℕ
 step f = (spelled f.target, f.line)
 
 abbrev pub steps : Trail → Steps
-steps t = map step (take t.depth t.frames)
+steps t = map step t.frames.items
+
+-- a frame as it is printed: the target and the line, with a colon between
+abbrev pub frame_text : Bytes × ℕ → Bytes
+frame_text f = f.0 ++ (58 ∷ decimal f.1)

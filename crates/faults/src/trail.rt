@@ -1,16 +1,44 @@
-ghost use Rattle.std.specs.Prelude.{◌≡◌, ◌≤◌, length};
+ghost use Rattle.std.specs.Prelude.{◌≡◌, [], ◌∷◌, ◌++◌, map, take};
 ghost use Rattle.names.specs.Limits.{depth_max};
 
 use crate::frame::Frame;
+use inline_vec::InlineVec;
+use names::Name;
 use names::limits::DEPTH_MAX;
 
-mod methods;
-
-/// The open targets that a fault passed through, innermost first. The first `depth` frames count.
+/// The open targets that a fault passed through, innermost first.
 #[derive(Clone, Copy)]
 pub struct Trail {
-    frames: [Frame; DEPTH_MAX],
-    depth: u8,
-    ghost fixed: { length frames ≡ depth_max },
-    ghost short: { depth ≤ depth_max },
+    frames: InlineVec<Frame, DEPTH_MAX>,
+}
+
+impl Trail {
+    ghost use Rattle.faults.specs.Trails.{step, steps};
+
+    /// A trail of no target.
+    pub fn new() -> Trail
+        ensures { steps result ≡ [] }
+    {
+        let none = Frame {
+            target: Name::filler(),
+            line: 0,
+        };
+        Trail {
+            frames: InlineVec::new(none),
+        }
+    }
+
+    /// The fault passes through one target more. A trail of eight frames stays as it is.
+    pub fn push(&mut self, frame: Frame)
+        ensures { steps self.new ≡ take depth_max (steps self.old ++ (step frame ∷ [])) }
+    {
+        let _ = self.frames.try_push(frame);
+    }
+
+    /// The frames, innermost first.
+    pub fn frames(&self) -> &[Frame]
+        ensures { map step result.now ≡ steps self.now }
+    {
+        self.frames.as_slice()
+    }
 }

@@ -93,7 +93,7 @@ impl<T: Copy, const CAP: usize> InlineVec<T, CAP> {
         ensures variant { is_ok result ≡ nat_lt (length self.old.items) CAP }
         ensures ok { OnOk result (self.new.items ≡ self.old.items ++ item ∷ []) }
         ensures err { OnErr result (self.new ≡ self.old) }
-        ensures fits { length self.new.items ≤ CAP }
+        ensures capped { self.new.items ≡ take CAP (self.old.items ++ item ∷ []) }
     {
         if self.is_full() {
             return Err(Full);
@@ -108,7 +108,6 @@ impl<T: Copy, const CAP: usize> InlineVec<T, CAP> {
         ensures variant { is_ok result ≡ nat_le (length self.old.items + length more.now) CAP }
         ensures ok { OnOk result (self.new.items ≡ self.old.items ++ more.now) }
         ensures err { OnErr result (self.new ≡ self.old) }
-        ensures fits { length self.new.items ≤ CAP }
     {
         if more.len() > CAP - self.len {
             return Err(Full);

@@ -3,7 +3,7 @@ use Rattle.std.specs.Prelude.{ℕ, cond, [], ◌∷◌, ◌++◌, map, length, i
 use Rattle.names.specs.Limits.{page_max}
 use Rattle.names.specs.Names.{Bytes, is_name}
 use Rattle.faults.specs.Trails.{Steps}
-use Rattle.clean.specs.Causes.{number}
+use Rattle.faults.specs.Causes.{number}
 use Rattle.clean.specs.Files.{Files, with_file}
 use Rattle.clean.specs.Evaluate.{Answer, made, failed, clean}
 use Rattle.protocol.specs.Answers.{page_text, trail_text}

@@ -1,6 +1,6 @@
 -- Lines collected byte by byte are the lines of the input.
-use Rattle.std.proofs.Common.{◌≡◌, ℕ, ◌+◌, ◌<◌, ◌≤◌, Bool, true, false, cond, eqb, leb, List, [], ◌∷◌, ◌++◌, map, length, take, set, Some, None, sym, refl, ap, ◌∙◌, ap₂, arith}
-use Rattle.std.proofs.lemmas.List.{append-nil, append_assoc, length_push, length-take-le, take_more_set}
+use Rattle.std.proofs.Common.{◌≡◌, ℕ, ◌<◌, ◌≤◌, Bool, true, false, cond, eqb, leb, List, [], ◌∷◌, ◌++◌, map, length, Some, None, sym, refl, ap, ◌∙◌, ap₂, arith}
+use Rattle.std.proofs.lemmas.List.{append-nil, append_assoc, length_push}
 use Rattle.std.proofs.lemmas.Bool.{cond-true, cond-false, le-leb, lt-leb, leb-false}
 use Rattle.names.specs.Limits.{line_max}
 use Rattle.names.specs.Names.{Bytes}
@@ -66,18 +66,9 @@ lines_are f (b ∷ bs) = at_byte f b bs (eqb b 10) (lines_are [] bs) (lines_are 
 pub from_start : (bs : Bytes) → lines_from (Some []) bs ≡ input_lines bs
 from_start bs = lines_are [] bs ∙ ap (map bounded) (front_none (cut bs))
 
--- one byte more in a buffer, with room for it and without
-module _ (bs : Bytes) (n b : ℕ) (l : length bs ≡ line_max) where
-  pub added : (t : Bool) → n < line_max → cond t None (Some (take (n + 1) (set bs n b))) ≡ grown (cond t None (Some (take n bs))) b
-  added true h = refl
-  added false h =
-      let k = length-take-le n bs (omega arith) in
-      let m = length_push (take n bs) b in
-      ap Some (take_more_set bs n b (omega arith)) ∙ sym (fits (take n bs ++ b ∷ []) (omega arith))
+-- one byte more of a line, with room for it and without
+pub added : (l : Bytes) (b : ℕ) → length (l ++ b ∷ []) ≤ line_max → grown (Some l) b ≡ Some (l ++ b ∷ [])
+added l b h = fits (l ++ b ∷ []) h
 
-  pub dropped : (t : Bool) → n ≤ line_max → line_max ≤ n → None ≡ grown (cond t None (Some (take n bs))) b
-  dropped true h k = refl
-  dropped false h k =
-      let j = length-take-le n bs (omega arith) in
-      let m = length_push (take n bs) b in
-      sym (passes (take n bs ++ b ∷ []) (omega arith))
+pub dropped : (l : Bytes) (b : ℕ) → line_max ≤ length l → grown (Some l) b ≡ None
+dropped l b h = let n = length_push l b in passes (l ++ b ∷ []) (omega arith)

@@ -1,16 +1,16 @@
 -- A line gives a command just where it has the command's form.
-use Rattle.std.proofs.Common.{◌≡◌, ℕ, ◌^◌, ◌<◌, ◌≤◌, Bool, true, false, cond, not, ◌&&◌, eqb, leb, List, [], ◌∷◌, ◌++◌, length, get_or, Some, None, codes, decimal, Option, sym, refl, ap, ◌∙◌, subst, ap₂, inl, inr, arith, rules}
+use Rattle.std.proofs.Common.{◌≡◌, ℕ, ◌^◌, ◌<◌, ◌≤◌, Bool, true, false, cond, not, ◌&&◌, eqb, leb, List, [], ◌∷◌, ◌++◌, length, get_or, Some, None, codes, decimal, Option, sym, refl, ap, ◌∙◌, subst, ap₂, inl, inr, arith}
 use Rattle.std.specs.Option.{option_map}
 use Rattle.std.specs.Str.{bytes_eq}
 use Rattle.std.proofs.lemmas.Fmt.{decimal-digits_value, digits_decimal, digits_value-decimal, decimal_nonempty, first_decimal, decimal_digit}
 use Rattle.std.proofs.lemmas.Slice.Eq.{bytes_eq-Decides}
-use Rattle.std.proofs.lemmas.Str.Parse.{IsNumeralModel, numerals_by_fold}
 use Rattle.std.proofs.lemmas.Bool.{eqb-true, eqb-false, ne_eqb, leb-true, le-leb, and_parts, and_from, cond-true, cond-false, cases_lt, not_from_false, not-true}
 use Rattle.names.specs.Names.{Bytes}
 use Rattle.protocol.specs.Decimals.{number_max, digit, all_digits, starts_well, value_behind, within, number_of}
 use Rattle.protocol.specs.Commands.{Request, lay, take, show, build, page, restart, in_front, divided, words, look_up, form_of, named, both_numbers, with_rest, with_form, with_parts, request_of}
 use Rattle.protocol.specs.Forms.{no_blank, Gives}
 use Rattle.protocol.specs.Views.{request, Reads}
+use Rattle.protocol.proofs.Readings.{own}
 use Rattle.protocol.specs.declared.command.Command.{Command}
 use Rattle.protocol.specs.declared.command.Form.{Form}
 use Rattle.protocol.specs.declared.command.Form.TheVariants.{NameAndText, NameAlone, TwoNumbers}
@@ -61,9 +61,6 @@ divides_not (x ∷ a) h =
     cond-false (eqb x 32) (Some ([], a)) (in_front x (divided a)) (not-true (eqb x 32) k.0) ∙ ap (in_front x) (divides_not a k.1)
 
 -- numbers
-own : IsNumeralModel (λ ds. all_digits ds ≡ true) (value_behind 0)
-own = numerals_by_fold _ (search rules) value_behind (search rules)
-
 first_of_some : (ds : Bytes) → starts_well ds ≡ true → (0 < length ds) × (get_or ds 0 0 ≡ 48 → length ds ≡ 1)
 first_of_some [] e = absurd (let z : ◌≡◌ {A = ℕ} 0 1 = cc in omega arith)
 first_of_some (b ∷ []) e = (omega arith, λ h. refl)
@@ -77,7 +74,7 @@ unfolding Writes
 written-within ds v n true e h g = let f : v ≡ n = cc in let k = leb-true v number_max e in subst (Writes ds) f (k, sym (h k))
 written-within ds v n false e h g = absurd (never g)
 
-written_by : (ds : Bytes) (n : ℕ) (t : Bool) → (starts_well ds && all_digits ds) ≡ t → cond t (within (value_behind 0 ds)) None ≡ Some n → Writes ds n
+written_by : (ds : Bytes) (n : ℕ) (t : Bool) → (starts_well ds && all_digits ds) ≡ t → cond t (within number_max (value_behind 0 ds)) None ≡ Some n → Writes ds n
 written_by ds n true e g =
     let k = and_parts (starts_well ds) (all_digits ds) e in
     let f = first_of_some ds k.0 in
@@ -105,8 +102,8 @@ read n h =
     let d = digits_decimal own n small in
     let v = digits_value-decimal own n small in
     let s = well_started (decimal n) (decimal_nonempty n small) (zero_alone n small) in
-    cond-true (starts_well (decimal n) && all_digits (decimal n)) (within (value_behind 0 (decimal n))) None (and_from _ _ s d)
-    ∙ (ap within v ∙ cond-true (leb n number_max) (Some n) None (le-leb n number_max h))
+    cond-true (starts_well (decimal n) && all_digits (decimal n)) (within number_max (value_behind 0 (decimal n))) None (and_from _ _ s d)
+    ∙ (ap (within number_max) v ∙ cond-true (leb n number_max) (Some n) None (le-leb n number_max h))
 
 digits_not_blank : (ds : Bytes) → all_digits ds ≡ true → no_blank ds ≡ true
 digits_not_blank [] h = refl

@@ -1,39 +1,75 @@
--- A number read digit by digit.
-use Rattle.std.proofs.Common.{◌≡◌, ℕ, ◌+◌, ◌-◌, ◌*◌, ◌<◌, ◌≤◌, Bool, true, false, cond, leb, [], ◌∷◌, length, get_or, drop, Some, None, Option, refl, ◌∙◌, arith}
-use Rattle.std.proofs.lemmas.List.{at_drop_more}
-use Rattle.std.proofs.lemmas.Bool.{cond-true, cond-false, le-leb, lt-leb}
+-- A number read by the library's `parse`.
+use Rattle.std.proofs.Common.{◌≡◌, ℕ, ◌<◌, ◌≤◌, ◌^◌, ◌≢◌, Bool, true, false, cond, ◌&&◌, nat_le, [], ◌∷◌, length, get_or, Some, None, Result, Ok, Err, is_ok, MatchResult, inl, inr, sym, refl, arith, rules}
+use Rattle.std.proofs.lemmas.Bool.{cases_Bool, and_parts, leb-true, lt-leb}
+use Rattle.std.proofs.lemmas.Str.{IsUtf8-from_ascii}
+use Rattle.std.proofs.lemmas.Str.Ascii.{IsAscii-from_reads}
+use Rattle.std.proofs.lemmas.Str.Parse.{IsNumeralModel, numerals_by_fold, digit_at, parse_plain}
+use Rattle.std.specs.Str.{IsAscii, IsUtf8}
+use Rattle.std.specs.Str.Parse.{ParsesUnsigned}
+use Rattle.std.specs.Bool.{then_some}
+use Rattle.std.specs.Result.{OkIff}
 use Rattle.names.specs.Names.{Bytes}
-use Rattle.protocol.specs.Decimals.{number_max, digit, all_digits, starts_well, value_behind, within, number_of}
+use Rattle.protocol.specs.Decimals.{digit, all_digits, starts_well, value_behind, decimal_up_to}
 
--- what the digits give behind those of n
-abbrev pub reading : ℕ → Bytes → Option ℕ
-reading n bs = cond (all_digits bs) (within (value_behind n bs)) None
+pub own : IsNumeralModel (λ ds. all_digits ds ≡ true) (value_behind 0)
+own = numerals_by_fold _ (search rules) value_behind (search rules)
 
-pub starts : (bs : Bytes) → starts_well bs ≡ true → reading 0 bs ≡ number_of bs
-starts bs e = rw e
+digit_bounds : (b : ℕ) → digit b ≡ true → (48 ≤ b) × (b ≤ 57)
+digit_bounds b h = let k = and_parts (nat_le 48 b) (nat_le b 57) h in (leb-true 48 b k.0, leb-true b 57 k.1)
 
-pub starts_not : (bs : Bytes) → starts_well bs ≡ false → number_of bs ≡ None
-starts_not bs e = rw e
+digits_ascii : (bs : Bytes) → all_digits bs ≡ true → IsAscii bs
+digits_ascii bs h = IsAscii-from_reads bs (length bs) (omega arith) (λ k l. let d = digit_at bs k (own.to bs h) l in omega arith)
 
-pub ends : (n : ℕ) → n ≤ number_max → reading n [] ≡ Some n
-ends n h = cond-true (leb n number_max) (Some n) None (le-leb n number_max h)
+some : (bs : Bytes) → starts_well bs ≡ true → 0 < length bs
+some [] h = absurd (let z : ◌≡◌ {A = ℕ} 0 1 = cc in omega arith)
+some (b ∷ bs) h = omega arith
 
-grows : (n : ℕ) (bs : Bytes) → n ≤ value_behind n bs
-grows n [] = omega arith
-grows n (b ∷ bs) = let h = grows (n * 10 + (b - 48)) bs in omega arith
+no_digits : (most : ℕ) (bs : Bytes) → all_digits bs ≡ false → decimal_up_to most bs ≡ None
+no_digits most bs h = elim (cases_Bool (starts_well bs)) [ inl s ↦ rw (s, h) | inr s ↦ rw s ]
 
-none : (t : Bool) (n : ℕ) → number_max < n → cond t (within n) None ≡ None
-none true n h = cond-false (leb n number_max) (Some n) None (lt-leb n number_max h)
-none false n h = refl
+pub refused : (most : ℕ) (bs : Bytes) → (starts_well bs && digit (get_or bs 0 0)) ≡ false → decimal_up_to most bs ≡ None
+refused most [] h = refl
+refused most (b ∷ bs) h =
+    elim (cases_Bool (digit b)) [
+      | inl d ↦ let s : starts_well (b ∷ bs) ≡ false = (elim (cases_Bool (starts_well (b ∷ bs))) [ inl s ↦ absurd (let z : true ≡ false = rw (s, d) at h in cc) | inr s ↦ s ]) in rw s
+      | inr d ↦ no_digits most (b ∷ bs) (rw d)
+    ]
 
-module _ (bs : Bytes) (i n : ℕ) (h : i < length bs) where
-  pub at_other : digit (get_or bs i 0) ≡ false → reading n (drop i bs) ≡ None
-  at_other e = at_drop_more (reading n) bs i 0 h ∙ rw e
+told : (b : Bool) (n : ℕ) → then_some b n ≡ cond b (Some n) None
+told true n = refl
+told false n = refl
 
-  pub at_digit : digit (get_or bs i 0) ≡ true → reading n (drop i bs) ≡ reading (n * 10 + (get_or bs i 0 - 48)) (drop (i + 1) bs)
-  at_digit e = at_drop_more (reading n) bs i 0 h ∙ rw e
+-- bytes with a lawful start, and what the library read of them
+module _ (most : ℕ) (bs : Bytes) (h : (starts_well bs && digit (get_or bs 0 0)) ≡ true) where
+  no_plus : get_or bs 0 0 ≢ 43
+  no_plus e = let k = digit_bounds (get_or bs 0 0) (and_parts (starts_well bs) (digit (get_or bs 0 0)) h).1 in omega arith
 
-  pub at_large : digit (get_or bs i 0) ≡ true → number_max < n * 10 + (get_or bs i 0 - 48) → reading n (drop i bs) ≡ None
-  at_large e k =
-      let m = grows (n * 10 + (get_or bs i 0 - 48)) (drop (i + 1) bs) in
-      at_digit e ∙ none (all_digits (drop (i + 1) bs)) _ (omega arith)
+  start : starts_well bs ≡ true
+  start = (and_parts (starts_well bs) _ h).0
+
+  pub no_text : {X E : Type 0} (P : X → Type 0) (Q : E → Type 0) (r : Result X E) → MatchResult r P (λ e. (IsUtf8 bs → ⊥) × Q e) → is_ok r ≡ false → decimal_up_to most bs ≡ None
+  no_text P Q (Ok x) m e = absurd (let z : true ≡ false = e in cc)
+  no_text P Q (Err w) m e = elim (cases_Bool (all_digits bs)) [ inl d ↦ absurd (m.0 (IsUtf8-from_ascii bs (digits_ascii bs d))) | inr d ↦ no_digits most bs d ]
+
+  pub unread : {E : Type 0} (x : Result ℕ E) → ParsesUnsigned 32 10 bs x → is_ok x ≡ false → most < 2 ^ 32 → decimal_up_to most bs ≡ None
+  unread x p e k = go x (parse_plain own 32 bs x p no_plus) e
+    where
+      go : {E : Type 0} (x : Result ℕ E) → OkIff x ((all_digits bs ≡ true) × (0 < length bs) × (value_behind 0 bs < 2 ^ 32)) (value_behind 0 bs) → is_ok x ≡ false → decimal_up_to most bs ≡ None
+      go (Ok n) q f = absurd (let z : true ≡ false = f in cc)
+      go (Err w) q f =
+          elim (cases_Bool (all_digits bs)) [
+            | inl d ↦
+                let l : most < value_behind 0 bs = omega (arith, λ (v : value_behind 0 bs < 2 ^ 32). q (d, some bs start, v)) in
+                let t : nat_le (value_behind 0 bs) most ≡ false = lt-leb (value_behind 0 bs) most l in
+                let s = start in
+                rw (s, d, t)
+            | inr d ↦ no_digits most bs d
+          ]
+
+  pub read : (E : Type 0) (x : Result ℕ E) (n : ℕ) → ParsesUnsigned 32 10 bs x → x ≡ Ok n → decimal_up_to most bs ≡ then_some (nat_le n most) n
+  read E x n p e =
+      let q : OkIff {E = E} (Ok n) ((all_digits bs ≡ true) × (0 < length bs) × (value_behind 0 bs < 2 ^ 32)) (value_behind 0 bs) = rw e at (parse_plain own 32 bs x p no_plus) in
+      let s = start in
+      let d = q.0.0 in
+      let v = q.1 in
+      rw (s, d, ← v) (sym (told (nat_le n most) n))

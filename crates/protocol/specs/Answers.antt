@@ -1,8 +1,8 @@
 -- What an answer prints: one line.
-use Rattle.std.specs.Prelude.{ℕ, [], ◌∷◌, ◌++◌, map, codes, decimal}
+use Rattle.std.specs.Prelude.{[], ◌∷◌, ◌++◌, map, codes, decimal}
 use Rattle.std.specs.List.{flat_map}
 use Rattle.names.specs.Names.{Bytes}
-use Rattle.faults.specs.Trails.{Steps}
+use Rattle.faults.specs.Trails.{Steps, frame_text}
 use Rattle.protocol.specs.Substitutes.{newline, bar, replaced}
 use Rattle.protocol.specs.declared.answer.Answer.{Answer}
 use Rattle.protocol.specs.declared.answer.Answer.TheVariants.{Done, Counts, Page, No}
@@ -11,13 +11,9 @@ use Rattle.protocol.specs.declared.answer.Answer.TheVariants.{Done, Counts, Page
 abbrev pub page_text : Bytes → Bytes
 page_text page = map (replaced newline bar) page
 
--- an open target and its line, behind a blank
-abbrev pub frame_text : Bytes × ℕ → Bytes
-frame_text f = 32 ∷ (f.0 ++ (58 ∷ decimal f.1))
-
--- a trail, innermost first
+-- a trail, innermost first: each open target and its line, behind a blank
 abbrev pub trail_text : Steps → Bytes
-trail_text trail = flat_map frame_text trail
+trail_text trail = flat_map (λ f. 32 ∷ frame_text f) trail
 
 -- the answer without the byte 10 that ends its line; a trail stands behind a refusal's number
 abbrev pub answer_text : Answer → Steps → Bytes

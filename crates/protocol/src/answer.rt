@@ -1,13 +1,13 @@
-ghost use Rattle.std.specs.Prelude.{◌≡◌, ◌∷◌, ◌++◌, is_ok, IfOk, if◌then◌else◌, string_bytes, codes, decimal};
-ghost use Rattle.faults.specs.Trails.{step, steps};
-ghost use Rattle.protocol.specs.Answers.{frame_text, trail_text, page_text, answer_text, answer_line};
+ghost use Rattle.std.specs.Prelude.{◌≡◌, ◌∷◌, ◌++◌, is_ok, IfOk, if◌then◌else◌, codes, decimal};
+ghost use Rattle.faults.specs.Trails.{steps};
+ghost use Rattle.protocol.specs.Answers.{trail_text, page_text, answer_text, answer_line};
 
 use crate::substitute::{BAR, NEWLINE, substitute};
-use faults::{Frame, Trail};
+use faults::Trail;
 use std::alloc::{AllocError, Global};
 
 /// What a line is answered.
-#[derive(Clone, Copy)]
+#[derive(Clone, Copy, PartialEq, Eq, Debug)]
 pub enum Answer<'a> {
     /// The call ended well.
     Done,
@@ -29,28 +29,17 @@ fn counts_text(heap: Global, changed: u16, same: u16) -> Result<Vec<u8>, AllocEr
 fn page_text(heap: Global, page: &[u8]) -> Result<Vec<u8>, AllocError>
     ensures { IfOk result (λ v. v.items ≡ codes "page " ++ page_text page.now) }
 {
-    let mut text = Vec::from_slice(heap, b"page ")?;
-    for b in page {
-        text.push(substitute(*b, NEWLINE, BAR))?;
-    }
-    Ok(text)
+    let shown = page.iter().map(|b| substitute(*b, NEWLINE, BAR));
+    b"page ".iter().copied().chain(shown).collect(heap)
 }
 
-fn frame_text(heap: Global, frame: &Frame) -> Result<String, AllocError>
-    ensures { IfOk result (λ s. string_bytes s ≡ frame_text (step frame.now)) }
-{
-    let target = frame.target;
-    let line = frame.line;
-    format!(in heap; " {target}:{line}")
-}
-
+#[tactic(auto, using(crate::proofs::Prints::trail_more, crate::proofs::Prints::trail_all))]
 fn refusal_text(heap: Global, number: u8, trail: &Trail) -> Result<Vec<u8>, AllocError>
     ensures { IfOk result (λ v. v.items ≡ codes "no " ++ (decimal number ++ trail_text (steps trail.now))) }
 {
     let mut text = format!(in heap; "no {number}")?;
     for frame in trail.frames() {
-        let passed = frame_text(heap, frame)?;
-        text.push_str(passed.as_str())?;
+        write!(text, " {frame}")?;
     }
     Ok(text.into_bytes())
 }

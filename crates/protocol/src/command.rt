@@ -1,13 +1,14 @@
-ghost use Rattle.std.specs.Prelude.{◌≡◌};
+ghost use Rattle.std.specs.Prelude.{◌≡◌, ◌==◌};
+ghost use Rattle.std.specs.List.{position};
 ghost use Rattle.std.specs.Option.{option_map};
-ghost use Rattle.protocol.specs.Commands.{divided, form_of, named, both_numbers, request_of};
+ghost use Rattle.protocol.specs.Commands.{divided, form_of, named, both_numbers, with_rest, request_of};
 ghost use Rattle.protocol.specs.Decimals.{number_of};
 ghost use Rattle.protocol.specs.Views.{parts, request, Reads};
 
 use crate::decimal::number;
 
 /// What a line asks for. A name is the line's bytes, not judged yet.
-#[derive(Clone, Copy)]
+#[derive(Clone, Copy, PartialEq, Eq, Debug)]
 pub enum Command<'a> {
     /// Lays a file of this text, in which `|` stands for byte 10.
     Lay { name: &'a [u8], text: &'a [u8] },
@@ -76,24 +77,23 @@ const WORDS: [Word; 6] = [
 fn form_of(word: &[u8]) -> Option<Form>
     ensures { result ≡ form_of word.now }
 {
-    for w in &WORDS {
-        if w.spelling == word {
-            return Some(w.form);
-        }
-    }
-    None
+    WORDS.iter().find(|w| w.spelling == word).map(|w| w.form)
+}
+
+// Where the first blank stands.
+fn blank_at(bytes: &[u8]) -> Option<usize>
+    ensures { result ≡ position (λ b. b == 32) bytes.now }
+{
+    bytes.iter().position(|b| *b == b' ')
 }
 
 // What stands before the first blank, and all that stands behind it.
+#[tactic(auto, using(crate::proofs::Divides::here, crate::proofs::Divides::nowhere))]
 fn divide(bytes: &[u8]) -> Option<(&[u8], &[u8])>
     ensures { option_map parts result ≡ divided bytes.now }
 {
-    for (i, b) in bytes.iter().enumerate() {
-        if *b == b' ' {
-            return Some((&bytes[0..i], &bytes[i + 1..]));
-        }
-    }
-    None
+    let at = blank_at(bytes)?;
+    Some((&bytes[..at], &bytes[at + 1..]))
 }
 
 impl Verb {
@@ -112,26 +112,17 @@ impl Verb {
 fn restart<'a>(charge: &[u8], pick: &[u8]) -> Option<Command<'a>>
     ensures { option_map request result ≡ both_numbers (number_of charge.now) (number_of pick.now) }
 {
-    let Some(charge) = number(charge) else {
-        return None;
-    };
-    let Some(pick) = number(pick) else {
-        return None;
-    };
+    let charge = number(charge)?;
+    let pick = number(pick)?;
     Some(Command::Restart { charge, pick })
 }
 
-impl<'a> Command<'a> {
-    fn of_line(line: &'a [u8]) -> Option<Command<'a>>
-        ensures { option_map request result ≡ request_of line.now }
+impl Form {
+    // The command of this form that `rest`, behind the word, completes.
+    fn command(self, rest: &[u8]) -> Option<Command<'_>>
+        ensures { option_map request result ≡ with_rest self rest.now (divided rest.now) }
     {
-        let Some((word, rest)) = divide(line) else {
-            return None;
-        };
-        let Some(form) = form_of(word) else {
-            return None;
-        };
-        match (form, divide(rest)) {
+        match (self, divide(rest)) {
             (Form::NameAndText, None) => Some(Command::Lay {
                 name: rest,
                 text: &[],
@@ -142,12 +133,16 @@ impl<'a> Command<'a> {
             _ => None,
         }
     }
+}
 
+impl<'a> Command<'a> {
     /// The command that a line gives; `None` where the line has another form.
+    #[tactic(auto, using(crate::proofs::Parses::reads))]
     pub fn parse(line: &'a [u8]) -> Option<Command<'a>>
         ensures value { option_map request result ≡ request_of line.now }
         ensures forms { Reads result line.now }
     {
-        Command::of_line(line)
+        let (word, rest) = divide(line)?;
+        form_of(word)?.command(rest)
     }
 }

@@ -1,43 +1,30 @@
-ghost use Rattle.std.specs.Prelude.{◌≡◌};
-ghost use Rattle.protocol.specs.Decimals.{starts_well, digit, number_of};
+ghost use Rattle.std.specs.Prelude.{◌≡◌, ◌&&◌, slice_index};
+ghost use Rattle.protocol.specs.Decimals.{digit, starts_well, decimal_up_to, number_of};
 
-// Whether a number may start so: with some byte, which is `0` only where it stands alone.
-fn has_lawful_start(digits: &[u8]) -> bool
-    ensures { result ≡ starts_well digits.now }
+use std::str;
+
+// Whether a number may start so: with a digit, which is `0` only where it stands alone.
+fn has_lawful_start(bytes: &[u8]) -> bool
+    ensures { result ≡ (starts_well bytes.now && digit (slice_index bytes.now 0)) }
 {
-    match digits {
-        [] => false,
-        [_] => true,
-        [first, ..] => *first != b'0',
-    }
+    matches!(bytes, [b'0'] | [b'1'..=b'9', ..])
 }
 
-fn is_digit(b: u8) -> bool
-    ensures { result ≡ digit b }
+/// The number up to `most` that the bytes write in decimal without a leading zero, if they write one.
+#[tactic(auto, using(crate::proofs::Readings::read, crate::proofs::Readings::unread))]
+pub fn decimal(bytes: &[u8], most: u32) -> Option<u32>
+    ensures { result ≡ decimal_up_to most bytes.now }
 {
-    match b {
-        b'0'..=b'9' => true,
-        _ => false,
-    }
-}
-
-/// The number from 0 to 65,535 that the bytes write in decimal without a leading zero, if they write one.
-pub fn number(digits: &[u8]) -> Option<u16>
-    ensures { result ≡ number_of digits.now }
-{
-    if !has_lawful_start(digits) {
+    if !has_lawful_start(bytes) {
         return None;
     }
-    let mut value: u16 = 0;
-    for d in digits {
-        if !is_digit(*d) {
-            return None;
-        }
-        let next = value as u32 * 10 + (*d - b'0') as u32;
-        if next > u16::MAX as u32 {
-            return None;
-        }
-        value = next as u16;
-    }
-    Some(value)
+    let value = str::from_utf8(bytes).ok()?.parse::<u32>().ok()?;
+    (value <= most).then_some(value)
+}
+
+/// The number from 0 to 65,535 that the bytes write so, if they write one.
+pub(crate) fn number(bytes: &[u8]) -> Option<u16>
+    ensures { result ≡ number_of bytes.now }
+{
+    u16::try_from(decimal(bytes, u16::MAX.into())?).ok()
 }

@@ -3,7 +3,7 @@
 
 mod answer;
 mod command;
-mod decimal;
+pub mod decimal;
 pub mod line_buffer;
 pub mod substitute;
 

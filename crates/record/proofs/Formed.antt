@@ -1,16 +1,18 @@
 -- A record is well formed, and bytes that are well formed are a record.
-use Rattle.std.proofs.Common.{◌≡◌, ℕ, zero, suc, ◌+◌, ◌-◌, ◌*◌, ◌<◌, ◌≤◌, Bool, true, false, ◌&&◌, eqb, leb, List, [], ◌∷◌, ◌++◌, map, length, get_or, take, drop, sym, refl, ap, ◌∙◌, subst, arith, take-add}
+use Rattle.std.proofs.Common.{◌≡◌, ℕ, zero, suc, ◌+◌, ◌-◌, ◌*◌, ◌/◌, ◌<◌, ◌≤◌, Bool, true, false, ◌&&◌, eqb, leb, List, [], ◌∷◌, ◌++◌, map, length, get_or, take, drop, sym, refl, ap, ◌∙◌, subst, arith}
 use Rattle.std.specs.List.{flat_map as JoinedBy, AllByRecursion}
-use Rattle.std.proofs.lemmas.List.{append_assoc, length-append, length-map, take_at, drop_at, take-append-drop, drop-drop, drop_more, take_more, flat_map_more, at_drop_more}
+use Rattle.std.specs.Simd.{first_chunks}
+use Rattle.std.proofs.lemmas.List.{append_assoc, get_or-take, length-append, length-drop, length-map, length-take-le, take_at, take_rest, drop_at, take-append-drop, drop-drop, drop_more}
 use Rattle.std.proofs.lemmas.Bool.{both_ways, and_parts, and_from, and_left, and_right, eq-eqb, ne_eqb, le-leb, lt-leb, leb-true}
 use Rattle.std.proofs.lemmas.Slice.Eq.{bytes_eq-Decides}
 use Rattle.names.specs.Names.{Bytes}
 use Rattle.record.specs.Entries.{EntryValue, Fitting}
 use Rattle.record.specs.Written.{two, four, body, pairs, joined, front_size, written}
-use Rattle.record.specs.Read.{number_of_two, number_of_four, count_in, entry_from, entries_in, pairs_from, parts, is_body, are_bodies, is_record}
+use Rattle.record.specs.Read.{number_of_four, count_in, entry_from, entries_in, pair_in, pairs_from, parts, is_body, are_bodies, is_record}
 use Rattle.record.specs.Chain.{chained}
-use Rattle.record.specs.Formed.{pair_at, pair_bytes, body_stands, bodies_stand, well_formed}
+use Rattle.record.specs.Formed.{pair_at, body_stands, bodies_stand, well_formed}
 use Rattle.record.specs.Laws.{Writable}
+use Rattle.record.proofs.Numbers.{AreBytes, rest_bytes, four_front, chunk_pairs, pair_bytes, pairs_bytes}
 use Rattle.record.proofs.Spans.{spans, length_pairs, pairs_back}
 use Rattle.record.proofs.RoundTrip.{length_bodies, named_from, record_is_written}
 use Rattle.record.proofs.Pushes.{body_is}
@@ -32,23 +34,17 @@ length-pairs_from zero bs = refl
 length-pairs_from (suc n) bs = ap suc (length-pairs_from n (drop 4 bs))
 
 -- the table in the bytes, pair by pair
-table_at : (n i : ℕ) (bs : Bytes) → i < n → get_or (pairs_from n bs) i (0, 0) ≡ (number_of_two (drop (4 * i) bs), number_of_two (drop (4 * i + 2) bs))
+table_at : (n i : ℕ) (bs : Bytes) → i < n → get_or (pairs_from n bs) i (0, 0) ≡ pair_in (drop (4 * i) bs)
 table_at zero i bs h = absurd (omega arith)
 table_at (suc n) zero bs h = refl
 table_at (suc n) (suc i) bs h =
     let r = table_at n i (drop 4 bs) (omega arith) in
     let p = drop-drop (4 * i) 4 bs in
-    let q = drop-drop (4 * i + 2) 4 bs in
     let a : 4 + 4 * i ≡ 4 * suc i = omega arith in
-    let b : 4 + (4 * i + 2) ≡ 4 * suc i + 2 = omega arith in
-    r ∙ (λ j. (number_of_two ((p ∙ ap (λ k. drop k bs) a) j), number_of_two ((q ∙ ap (λ k. drop k bs) b) j)))
+    r ∙ ap pair_in (p ∙ ap (λ k. drop k bs) a)
 
 pub pairs_at : (n i : ℕ) (bs : Bytes) → i < n → get_or (pairs_from n (drop 5 bs)) i (0, 0) ≡ pair_at bs i
-pairs_at n i bs h =
-    let p = drop-drop (4 * i) 5 bs in
-    let q = drop-drop (4 * i + 2) 5 bs in
-    let b : 5 + (4 * i + 2) ≡ 5 + 4 * i + 2 = omega arith in
-    table_at n i (drop 5 bs) h ∙ (λ j. (number_of_two (p j), number_of_two ((q ∙ ap (λ k. drop k bs) b) j)))
+pairs_at n i bs h = table_at n i (drop 5 bs) h ∙ ap pair_in (drop-drop (4 * i) 5 bs)
 
 from_zero : (ps : List (ℕ × ℕ)) → JoinedBy (pair 0) ps ≡ JoinedBy pair_bytes ps
 from_zero [] = refl
@@ -63,16 +59,20 @@ cut bs n h =
     let m = drop_more bs 4 0 h in
     ap (λ x. take 4 bs ++ (get_or bs 4 0 ∷ x)) r ∙ ap (λ x. take 4 bs ++ x) (sym m) ∙ take-append-drop 4 bs
 
--- bytes that are well formed are a record, if their numbers are bytes
-pub formed-is_record : (bs : Bytes) → well_formed bs ≡ true → four (number_of_four bs) ≡ take 4 bs → JoinedBy pair_bytes (pairs_from (count_in bs) (drop 5 bs)) ≡ take (4 * count_in bs) (drop 5 bs) → is_record bs ≡ true
+-- bytes that are well formed are a record
+pub formed-is_record : (bs : Bytes) → AreBytes bs → well_formed bs ≡ true → is_record bs ≡ true
 unfolding is_record written
-formed-is_record bs h f j =
+formed-is_record bs a h =
     let n = count_in bs in
     let ps = pairs_from n (drop 5 bs) in
     let t = and_parts (leb 5 (length bs) && (leb 1 n && leb n 28)) _ h in
     let u = and_parts (leb 5 (length bs)) _ t.0 in
     let v = and_parts (leb 1 n) _ u.1 in
     let w = and_parts (leb (front_size n) (length bs)) _ t.1 in
+    let long = leb-true (front_size n) (length bs) w.0 in
+    let f = four_front bs (omega arith) a in
+    let m = length-drop 5 bs in
+    let j = pairs_bytes n (drop 5 bs) (omega arith) (rest_bytes 5 bs a) in
     let c = stand_chained (front_size n) ps bs w.1 in
     let b = bodies_are (parts ps bs) c.1 in
     let l : length (entries_in bs) ≡ n = length-map (parts ps bs) entry_from ∙ length-map ps _ ∙ length-pairs_from n (drop 5 bs) in
@@ -135,57 +135,48 @@ malformed bs h = by (is_record bs) refl
     by false e = refl
     by true e = absurd (both_ways (well_formed bs) h (record_is_formed bs e))
 
--- a reader's step from body to body
-pub next_body : (bs : Bytes) (n at i : ℕ) → i < n → bodies_stand at (drop i (pairs_from n (drop 5 bs))) bs ≡ (body_stands at (pair_at bs i) bs && bodies_stand (at + (pair_at bs i).1) (drop (i + 1) (pairs_from n (drop 5 bs))) bs)
-next_body bs n at i h =
-    let ps = pairs_from n (drop 5 bs) in
-    let l = length-pairs_from n (drop 5 bs) in
-    let e = pairs_at n i bs h in
-    at_drop_more (λ x. bodies_stand at x bs) ps i (0, 0) (omega arith)
-    ∙ ap (λ (p : ℕ × ℕ). body_stands at p bs && bodies_stand (at + p.1) (drop (i + 1) ps) bs) e
-
-pub after-body : (bs : Bytes) (n at i e : ℕ) → i < n → body_stands at (pair_at bs i) bs ≡ true → e ≡ at + (pair_at bs i).1 → bodies_stand e (drop (i + 1) (pairs_from n (drop 5 bs))) bs ≡ bodies_stand at (drop i (pairs_from n (drop 5 bs))) bs
-after-body bs n at i e h t k =
-    let rest = drop (i + 1) (pairs_from n (drop 5 bs)) in
-    ap (λ x. bodies_stand x rest bs) k ∙ sym (next_body bs n at i h ∙ ap (λ b. b && bodies_stand (at + (pair_at bs i).1) rest bs) t)
-
-pub next_pair : (bs : Bytes) (n i : ℕ) → i < n → JoinedBy pair_bytes (take i (pairs_from n (drop 5 bs))) ≡ take (4 * i) (drop 5 bs) → pair_bytes (pair_at bs i) ≡ take 4 (drop (front_size i) bs) → JoinedBy pair_bytes (take (i + 1) (pairs_from n (drop 5 bs))) ≡ take (4 * (i + 1)) (drop 5 bs)
-next_pair bs n i h j b =
-    let ps = pairs_from n (drop 5 bs) in
-    let l = length-pairs_from n (drop 5 bs) in
-    let m = take_more ps i (0, 0) (omega arith) in
-    let a : 4 * (i + 1) ≡ 4 * i + 4 = omega arith in
-    ap (JoinedBy pair_bytes) m ∙ sym (flat_map_more pair_bytes [] (take i ps) (get_or ps i (0, 0)))
-    ∙ (λ k. j k ++ (ap pair_bytes (pairs_at n i bs h) ∙ b ∙ ap (take 4) (sym (drop-drop (4 * i) 5 bs))) k)
-    ∙ sym (take-add (4 * i) 4 (drop 5 bs)) ∙ ap (λ k. take k (drop 5 bs)) (sym a)
-
-pub formed_long : (bs : Bytes) → well_formed bs ≡ true → 5 ≤ length bs
-formed_long bs h = leb-true 5 (length bs) (and_parts (leb 5 (length bs)) _ (and_parts (leb 5 (length bs) && (leb 1 (count_in bs) && leb (count_in bs) 28)) _ h).0).0
-
 -- what a body that a pair names is, seen from where it should start
 module _ (bs : Bytes) (at : ℕ) (p : ℕ × ℕ) where
   pub off_start : (p.0 ≡ at → ⊥) → body_stands at p bs ≡ false
   unfolding body_stands
   off_start h = and_left _ _ (and_left (eqb p.0 at) _ (ne_eqb p.0 at h))
 
-  pub past_end : length bs < at + p.1 → body_stands at p bs ≡ false
+  pub past_end : p.0 ≡ at → length bs < p.0 + p.1 → body_stands at p bs ≡ false
   unfolding body_stands
-  past_end h = and_left _ _ (and_right (eqb p.0 at) _ (lt-leb (at + p.1) (length bs) h))
+  past_end e h = and_left _ _ (and_right (eqb p.0 at) _ (lt-leb (at + p.1) (length bs) (omega arith)))
 
-  pub no_body : p.0 ≡ at → is_body (take (at + p.1 - at) (drop at bs)) ≡ false → body_stands at p bs ≡ false
+  pub no_body : is_body (take p.1 (drop p.0 bs)) ≡ false → body_stands at p bs ≡ false
   unfolding body_stands
-  no_body e h =
-      let n : at + p.1 - at ≡ p.1 = omega arith in
-      and_right (eqb p.0 at && leb (at + p.1) (length bs)) _ ((λ i. is_body (take (sym n i) (drop (e i) bs))) ∙ h)
+  no_body h = and_right (eqb p.0 at && leb (at + p.1) (length bs)) _ h
 
-  pub stands : p.0 ≡ at → at + p.1 ≤ length bs → is_body (take (at + p.1 - at) (drop at bs)) ≡ true → body_stands at p bs ≡ true
+  pub stands : p.0 ≡ at → p.0 + p.1 ≤ length bs → is_body (take p.1 (drop p.0 bs)) ≡ true → body_stands at p bs ≡ true
   unfolding body_stands
-  stands e l h =
-      let n : at + p.1 - at ≡ p.1 = omega arith in
-      and_from _ _ (and_from _ _ (eq-eqb p.0 at e) (le-leb _ _ l)) ((λ i. is_body (take (sym n i) (drop (e i) bs))) ∙ h)
+  stands e l h = and_from _ _ (and_from _ _ (eq-eqb p.0 at e) (le-leb _ _ (omega arith))) h
 
-pub ill_bodies : (bs : Bytes) → bodies_stand (front_size (count_in bs)) (pairs_from (count_in bs) (drop 5 bs)) bs ≡ false → well_formed bs ≡ false
-ill_bodies bs h = and_right (leb 5 (length bs) && (leb 1 (count_in bs) && leb (count_in bs) 28)) _ (and_right (leb (front_size (count_in bs)) (length bs)) _ h)
+-- a part of the bytes, by where it begins and how long it is
+pub part_is : (bs part : Bytes) (p : ℕ × ℕ) → part ≡ take (p.0 + p.1 - p.0) (drop p.0 bs) → part ≡ take p.1 (drop p.0 bs)
+part_is bs part p e = let n : p.0 + p.1 - p.0 ≡ p.1 = omega arith in e ∙ ap (λ m. take m (drop p.0 bs)) n
+
+-- the pair at the front of the bytes from a place on
+pair_front : (bs : Bytes) → pair_in (take 4 bs) ≡ pair_in bs
+pair_front [] = refl
+pair_front (a ∷ []) = refl
+pair_front (a ∷ b ∷ []) = refl
+pair_front (a ∷ b ∷ c ∷ []) = refl
+pair_front (a ∷ b ∷ c ∷ d ∷ bs) = refl
+
+pub pair_there : (bs rest pair : Bytes) (i : ℕ) → rest ≡ take (length bs - (5 + 4 * i)) (drop (5 + 4 * i) bs) → pair ≡ take 4 rest → pair_in pair ≡ pair_at bs i
+pair_there bs rest pair i e f = ap pair_in f ∙ pair_front rest ∙ ap pair_in (e ∙ take_rest bs (5 + 4 * i))
+
+-- the table of a record, cut into its pairs
+pub table_is : (bs t : Bytes) (cs : List Bytes) (n : ℕ) → 5 + 4 * n ≤ length bs → t ≡ take (5 + 4 * n - 5) (drop 5 bs) → cs ≡ first_chunks 4 (length t / 4) t → map pair_in cs ≡ pairs_from n (drop 5 bs)
+table_is bs t cs n h e f =
+    let d = length-drop 5 bs in
+    let a : 5 + 4 * n - 5 ≡ 4 * n = omega arith in
+    let g : t ≡ take (4 * n) (drop 5 bs) = e ∙ ap (λ m. take m (drop 5 bs)) a in
+    let l : length t ≡ 4 * n = ap length g ∙ length-take-le (4 * n) (drop 5 bs) (omega arith) in
+    let k : length t / 4 ≡ n = omega arith in
+    ap (map pair_in) (f ∙ (λ i. first_chunks 4 (k i) (g i))) ∙ chunk_pairs n (drop 5 bs) (omega arith)
 
 pub formed_if : (bs : Bytes) → 5 ≤ length bs → 1 ≤ count_in bs → count_in bs ≤ 28 → front_size (count_in bs) ≤ length bs → well_formed bs ≡ bodies_stand (front_size (count_in bs)) (pairs_from (count_in bs) (drop 5 bs)) bs
 formed_if bs a b d e =
@@ -194,3 +185,23 @@ formed_if bs a b d e =
     let r = le-leb (count_in bs) 28 d in
     let s = le-leb (front_size (count_in bs)) (length bs) e in
     λ i. (p i && (q i && r i)) && (s i && bodies_stand (front_size (count_in bs)) (pairs_from (count_in bs) (drop 5 bs)) bs)
+
+-- what the first five bytes say
+module _ (bs h : Bytes) (e : h ≡ take 5 bs) where
+  at_front : (j : ℕ) → j < 5 → get_or h j 0 ≡ get_or bs j 0
+  at_front j l = ap (λ x. get_or x j 0) e ∙ get_or-take 5 bs j 0 l
+
+  pub header_said : (get_or h 0 0 + get_or h 1 0 * 256 + get_or h 2 0 * 65536 + get_or h 3 0 * 16777216 ≡ number_of_four bs) × (get_or h 4 0 ≡ count_in bs)
+  header_said =
+      let p = at_front 0 (omega arith) in
+      let q = at_front 1 (omega arith) in
+      let r = at_front 2 (omega arith) in
+      let s = at_front 3 (omega arith) in
+      ((λ i. p i + q i * 256 + r i * 65536 + s i * 16777216), at_front 4 (omega arith))
+
+-- with 1 to 28 entries and a table, bytes are well formed if the bodies stand
+pub formed_by : (bs t : Bytes) (cs : List Bytes) (n : ℕ) → n ≡ count_in bs → 5 ≤ length bs → 1 ≤ n → n ≤ 28 → 5 + 4 * n ≤ length bs → t ≡ take (5 + 4 * n - 5) (drop 5 bs) → cs ≡ first_chunks 4 (length t / 4) t
+    → well_formed bs ≡ bodies_stand (5 + 4 * n) (map pair_in cs) bs
+formed_by bs t cs n k long some few room e f =
+    let p = table_is bs t cs n room e f in
+    formed_if bs long (omega arith) (omega arith) (omega arith) ∙ (λ i. bodies_stand (5 + 4 * sym k i) (pairs_from (sym k i) (drop 5 bs)) bs) ∙ ap (λ ps. bodies_stand (5 + 4 * n) ps bs) (sym p)

@@ -7,15 +7,16 @@ use Rattle.std.proofs.lemmas.Option.{slice_get-get_or, slice_get_past}
 use Rattle.std.proofs.lemmas.Bool.{and_parts, and_from, and_left, and_right, le-leb, lt-leb, lt-ltb, le-ltb, leb-true, cases_lt}
 use Rattle.names.specs.Names.{Bytes}
 use Rattle.record.specs.Entries.{EntryValue}
-use Rattle.record.specs.Written.{front_size}
+use Rattle.record.specs.Written.{front_size, written}
 use Rattle.record.specs.Read.{number_of_four, count_in, entry_from, entries_in, pairs_from, parts, is_body, are_bodies, is_record, read}
 use Rattle.record.specs.Formed.{pair_at}
 use Rattle.record.specs.Views.{Shows, bytes_under, part_at, has_part, entry_at}
 use Rattle.record.specs.Values.{value_of}
 use Rattle.record.specs.declared.view.RecordView.{RecordView}
 use Rattle.record.specs.declared.entry.Entry.{Entry}
+use Rattle.record.proofs.RoundTrip.{record_is_written, short}
 use Rattle.record.proofs.Finishes.{chained_at}
-use Rattle.record.proofs.Formed.{length-pairs_from, pairs_at, stand_chained, record_is_formed}
+use Rattle.record.proofs.Formed.{length-pairs_from, pairs_at, part_is, stand_chained, record_is_formed}
 
 pub count_is : (bs : Bytes) → length (entries_in bs) ≡ count_in bs
 count_is bs =
@@ -29,6 +30,19 @@ read_when bs h = ap (λ b. cond {A = Option (ℕ × List EntryValue)} b (Some (n
 pub read-unless : (bs : Bytes) → is_record bs ≡ false → read bs ≡ None
 unfolding read
 read-unless bs h = ap (λ b. cond {A = Option (ℕ × List EntryValue)} b (Some (number_of_four bs, entries_in bs)) None) h
+
+-- bytes that are a record, seen by their stamp and their count
+pub shown : (v : RecordView) → is_record (bytes_under v) ≡ true → v.stamp ≡ number_of_four (bytes_under v) → v.count ≡ count_in (bytes_under v) → Shows (bytes_under v) v
+shown v r s n =
+    let bs = bytes_under v in
+    let w = record_is_written bs r in
+    record {
+      same = refl;
+      count_is = n ∙ sym (count_is bs);
+      reads = read_when bs r ∙ ap (λ s. Some (s, entries_in bs)) (sym s);
+      exact = ap (λ s. written s (entries_in bs)) s ∙ w.0;
+      short = let l = short (number_of_four bs) (entries_in bs) w.1 in let e = ap length w.0 in omega arith;
+    }
 
 pub record_when : (bs : Bytes) (s : ℕ) (es : List EntryValue) → read bs ≡ Some (s, es) → is_record bs ≡ true
 unfolding read
@@ -99,21 +113,19 @@ module _ (v : RecordView) (i : ℕ) where
       sym (ap (λ b. cond {A = Option EntryValue} b (Some (entry_from (part_at (bytes_under v) i))) None)
       (and_right (ltb i v.count) _ (and_left (has_part (bytes_under v) i) _ (and_right (leb (front_size (i + 1)) (length (bytes_under v))) _ (lt-leb _ _ (subst P e h))))))
 
-  pub has_entry : (p : ℕ × ℕ) (r : Option Entry) → p ≡ pair_at (bytes_under v) i → i < v.count → front_size (i + 1) ≤ length (bytes_under v) → p.0 + p.1 ≤ length (bytes_under v)
-      → MatchOption r (is_body (take (p.0 + p.1 - p.0) (drop p.0 (bytes_under v))) ≡ false) (λ e. (is_body (take (p.0 + p.1 - p.0) (drop p.0 (bytes_under v))) ≡ true) × (value_of e ≡ entry_from (take (p.0 + p.1 - p.0) (drop p.0 (bytes_under v)))))
-      → option_map value_of r ≡ entry_at v i
+  pub has_entry : (p : ℕ × ℕ) (part : Bytes) (r : Option Entry) → p ≡ pair_at (bytes_under v) i → part ≡ take (p.0 + p.1 - p.0) (drop p.0 (bytes_under v)) → i < v.count → front_size (i + 1) ≤ length (bytes_under v) → p.0 + p.1 ≤ length (bytes_under v)
+      → MatchOption r (is_body part ≡ false) (λ e. (is_body part ≡ true) × (value_of e ≡ entry_from part)) → option_map value_of r ≡ entry_at v i
   unfolding entry_at
-  has_entry p r e h k l c =
-      let n : p.0 + p.1 - p.0 ≡ p.1 = omega arith in
-      let part : take (p.0 + p.1 - p.0) (drop p.0 (bytes_under v)) ≡ part_at (bytes_under v) i = ap (λ m. take m (drop p.0 (bytes_under v))) n ∙ ap (λ (q : ℕ × ℕ). take q.1 (drop q.0 (bytes_under v))) e in
-      let P : ℕ × ℕ → Type 0 = λ q. q.0 + q.1 ≤ length (bytes_under v) in
+  has_entry p part r e f h k l c =
+      let bs = bytes_under v in
+      let same : part ≡ part_at bs i = part_is bs part p f ∙ ap (λ (q : ℕ × ℕ). take q.1 (drop q.0 bs)) e in
+      let P : ℕ × ℕ → Type 0 = λ q. q.0 + q.1 ≤ length bs in
       let t : ltb i v.count ≡ true = lt-ltb i v.count h in
-      let u : has_part (bytes_under v) i ≡ true = and_from _ _ (le-leb _ _ k) (le-leb _ _ (subst P e l)) in
-      by r c part ∙ sym (λ j. cond {A = Option EntryValue} (t j && (u j && is_body (part_at (bytes_under v) i))) (Some (entry_from (part_at (bytes_under v) i))) None)
+      let u : has_part bs i ≡ true = and_from _ _ (le-leb _ _ k) (le-leb _ _ (subst P e l)) in
+      by r c ∙ (λ j. cond {A = Option EntryValue} (is_body (same j)) (Some (entry_from (same j))) None)
+      ∙ sym (λ j. cond {A = Option EntryValue} (t j && (u j && is_body (part_at bs i))) (Some (entry_from (part_at bs i))) None)
     where
-      by : (r : Option Entry) → MatchOption r (is_body (take (p.0 + p.1 - p.0) (drop p.0 (bytes_under v))) ≡ false) (λ e. (is_body (take (p.0 + p.1 - p.0) (drop p.0 (bytes_under v))) ≡ true) × (value_of e ≡ entry_from (take (p.0 + p.1 - p.0) (drop p.0 (bytes_under v)))))
-          → take (p.0 + p.1 - p.0) (drop p.0 (bytes_under v)) ≡ part_at (bytes_under v) i
-          → option_map value_of r ≡ cond {A = Option EntryValue} (is_body (part_at (bytes_under v) i)) (Some (entry_from (part_at (bytes_under v) i))) None
-      by None f part = sym (ap (λ b. cond {A = Option EntryValue} b (Some (entry_from (part_at (bytes_under v) i))) None) (ap is_body (sym part) ∙ f))
-      by (Some x) f part =
-          ap (λ x. Some x) (f.1 ∙ ap entry_from part) ∙ sym (ap (λ b. cond {A = Option EntryValue} b (Some (entry_from (part_at (bytes_under v) i))) None) (ap is_body (sym part) ∙ f.0))
+      by : (r : Option Entry) → MatchOption r (is_body part ≡ false) (λ e. (is_body part ≡ true) × (value_of e ≡ entry_from part))
+          → option_map value_of r ≡ cond {A = Option EntryValue} (is_body part) (Some (entry_from part)) None
+      by None f = sym (ap (λ b. cond {A = Option EntryValue} b (Some (entry_from part)) None) f)
+      by (Some x) f = ap (λ x. Some x) f.1 ∙ sym (ap (λ b. cond {A = Option EntryValue} b (Some (entry_from part)) None) f.0)

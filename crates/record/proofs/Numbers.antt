@@ -1,7 +1,10 @@
 -- Numbers of two and of four bytes, written and read back.
-use Rattle.std.proofs.Common.{◌≡◌, ℕ, ◌+◌, ◌*◌, ◌/◌, ◌%◌, ◌^◌, ◌<◌, ◌≤◌, List, [], ◌∷◌, length, get_or, drop, ap, ◌∙◌, arith}
-use Rattle.std.proofs.lemmas.List.{drop_more}
+use Rattle.std.proofs.Common.{◌≡◌, ℕ, zero, suc, ◌+◌, ◌*◌, ◌/◌, ◌%◌, ◌^◌, ◌<◌, ◌≤◌, List, [], ◌∷◌, ◌++◌, map, length, get_or, take, drop, refl, ap, ◌∙◌, arith}
+use Rattle.std.specs.List.{flat_map}
+use Rattle.std.specs.Simd.{first_chunks}
+use Rattle.std.proofs.lemmas.List.{get_or-drop}
 use Rattle.record.specs.Written.{two, four}
+use Rattle.record.specs.Read.{number_of_two, number_of_four, pair_in, pairs_from}
 
 pub two_back : (n : ℕ) → n < 2 ^ 16 → n % 256 + n / 256 % 256 * 256 ≡ n
 two_back n h = omega arith
@@ -59,18 +62,51 @@ four_of a b c d h k l m =
     let s : n / 16777216 % 256 ≡ d = ap (λ x. x % 256) s₁ ∙ small d m in
     cc
 
--- the bytes at an index, one by one
-pub two_at : (bs : List ℕ) (at : ℕ) → at + 2 ≤ length bs → drop at bs ≡ get_or bs at 0 ∷ get_or bs (at + 1) 0 ∷ drop (at + 2) bs
-two_at bs at h =
-    let p = drop_more bs at 0 (omega arith) in
-    let q = drop_more bs (at + 1) 0 (omega arith) in
-    let e : at + 1 + 1 ≡ at + 2 = omega arith in
-    p ∙ ap (λ x. get_or bs at 0 ∷ x) q ∙ ap (λ n. get_or bs at 0 ∷ get_or bs (at + 1) 0 ∷ drop n bs) e
+-- each is a byte
+abbrev pub AreBytes : List ℕ → Type 0
+AreBytes bs = (k : ℕ) → get_or bs k 0 < 256
 
-pub four_at : (bs : List ℕ) (at : ℕ) → at + 4 ≤ length bs → drop at bs ≡ get_or bs at 0 ∷ get_or bs (at + 1) 0 ∷ get_or bs (at + 2) 0 ∷ get_or bs (at + 3) 0 ∷ drop (at + 4) bs
-four_at bs at h =
-    let p = two_at bs at (omega arith) in
-    let q = two_at bs (at + 2) (omega arith) in
-    let e : at + 2 + 1 ≡ at + 3 = omega arith in
-    let f : at + 2 + 2 ≡ at + 4 = omega arith in
-    p ∙ ap (λ x. get_or bs at 0 ∷ get_or bs (at + 1) 0 ∷ x) q ∙ (λ i. get_or bs at 0 ∷ get_or bs (at + 1) 0 ∷ get_or bs (at + 2) 0 ∷ get_or bs (e i) 0 ∷ drop (f i) bs)
+pub rest_bytes : (n : ℕ) (bs : List ℕ) → AreBytes bs → AreBytes (drop n bs)
+rest_bytes n bs h = λ k. rw (get_or-drop n bs k 0) (h (n + k))
+
+-- the numbers at the front of bytes, written again
+pub two_front : (bs : List ℕ) → 2 ≤ length bs → AreBytes bs → two (number_of_two bs) ≡ take 2 bs
+two_front [] l h = absurd (omega arith)
+two_front (a ∷ []) l h = absurd (omega arith)
+two_front (a ∷ b ∷ bs) l h = two_of a b (h 0) (h 1)
+
+pub four_front : (bs : List ℕ) → 4 ≤ length bs → AreBytes bs → four (number_of_four bs) ≡ take 4 bs
+four_front [] l h = absurd (omega arith)
+four_front (a ∷ []) l h = absurd (omega arith)
+four_front (a ∷ b ∷ []) l h = absurd (omega arith)
+four_front (a ∷ b ∷ c ∷ []) l h = absurd (omega arith)
+four_front (a ∷ b ∷ c ∷ d ∷ bs) l h = four_of a b c d (h 0) (h 1) (h 2) (h 3)
+
+-- a table of pairs, cut into its pairs
+pub chunk_pairs : (n : ℕ) (bs : List ℕ) → 4 * n ≤ length bs → map pair_in (first_chunks 4 n (take (4 * n) bs)) ≡ pairs_from n bs
+chunk_pairs zero bs l = refl
+chunk_pairs (suc n) [] l = absurd (omega arith)
+chunk_pairs (suc n) (a ∷ []) l = absurd (omega arith)
+chunk_pairs (suc n) (a ∷ b ∷ []) l = absurd (omega arith)
+chunk_pairs (suc n) (a ∷ b ∷ c ∷ []) l = absurd (omega arith)
+chunk_pairs (suc n) (a ∷ b ∷ c ∷ d ∷ bs) l =
+    let e : 4 * suc n ≡ suc (suc (suc (suc (4 * n)))) = omega arith in
+    ap (λ m. map pair_in (first_chunks 4 (suc n) (take m (a ∷ b ∷ c ∷ d ∷ bs)))) e
+    ∙ ap (λ ps. (a + b * 256, c + d * 256) ∷ ps) (chunk_pairs n bs (omega arith))
+
+-- and written again
+abbrev pub pair_bytes : ℕ × ℕ → List ℕ
+pair_bytes p = two p.0 ++ two p.1
+
+pub pairs_bytes : (n : ℕ) (bs : List ℕ) → 4 * n ≤ length bs → AreBytes bs → flat_map pair_bytes (pairs_from n bs) ≡ take (4 * n) bs
+pairs_bytes zero bs l h = refl
+pairs_bytes (suc n) [] l h = absurd (omega arith)
+pairs_bytes (suc n) (a ∷ []) l h = absurd (omega arith)
+pairs_bytes (suc n) (a ∷ b ∷ []) l h = absurd (omega arith)
+pairs_bytes (suc n) (a ∷ b ∷ c ∷ []) l h = absurd (omega arith)
+pairs_bytes (suc n) (a ∷ b ∷ c ∷ d ∷ bs) l h =
+    let e : suc (suc (suc (suc (4 * n)))) ≡ 4 * suc n = omega arith in
+    let p = two_of a b (h 0) (h 1) in
+    let q = two_of c d (h 2) (h 3) in
+    let r = pairs_bytes n bs (omega arith) (λ k. h (suc (suc (suc (suc k))))) in
+    (λ i. (p i ++ q i) ++ r i) ∙ ap (λ m. take m (a ∷ b ∷ c ∷ d ∷ bs)) e

@@ -1,8 +1,8 @@
 -- One body more behind those that stand.
-use Rattle.std.proofs.Common.{◌≡◌, ℕ, ◌+◌, ◌<◌, ◌≤◌, true, eqb, List, [], ◌∷◌, ◌++◌, map, length, take, drop, set, sym, refl, ap, ◌∙◌, subst, arith}
-use Rattle.std.proofs.lemmas.List.{take_more_set, take-append-le, drop-append-le, drop_at, take_all, length-drop, length-map, length-take-le, map_push}
+use Rattle.std.proofs.Common.{◌≡◌, ℕ, ◌+◌, ◌≤◌, true, eqb, List, [], ◌∷◌, ◌++◌, map, length, take, drop, Ok, Err, Result, is_ok, OnOk, MatchResult, sym, refl, ap, ◌∙◌, arith}
+use Rattle.std.proofs.lemmas.List.{take-append-le, drop-append-le, drop_at, take_all, length-drop, length-map, map_push}
 use Rattle.std.proofs.lemmas.Bool.Decides.{nat_tests}
-use Rattle.std.proofs.lemmas.Bool.{and_parts, and_from, eqb-true}
+use Rattle.std.proofs.lemmas.Bool.{and_parts, and_from, eqb-true, false≢true}
 use Rattle.std.proofs.lemmas.Slice.Eq.{bytes_eq-Decides}
 use Rattle.names.specs.Names.{Bytes, is_name}
 use Rattle.record.specs.Entries.{EntryValue, Fitting}
@@ -15,7 +15,7 @@ pub chained_le : (s : ℕ) (ps : List (ℕ × ℕ)) (e : ℕ) → chained s ps e
 chained_le s [] e h = omega (arith, eqb-true s e h)
 chained_le s (p ∷ ps) e h = let t = and_parts (eqb p.0 s) _ h in omega (arith, chained_le (s + p.1) ps e t.1)
 
-chained-push : (s : ℕ) (ps : List (ℕ × ℕ)) (e n : ℕ) → chained s ps e ≡ true → chained s (ps ++ (e, n) ∷ []) (e + n) ≡ true
+pub chained-push : (s : ℕ) (ps : List (ℕ × ℕ)) (e n : ℕ) → chained s ps e ≡ true → chained s (ps ++ (e, n) ∷ []) (e + n) ≡ true
 chained-push s [] e n h = grind (arith, nat_tests)
 chained-push s (p ∷ ps) e n h =
     let t = and_parts (eqb p.0 s) (chained (s + p.1) ps e) h in
@@ -37,18 +37,12 @@ parts-append : (ps qs : List (ℕ × ℕ)) (bs : Bytes) → parts (ps ++ qs) bs 
 parts-append [] qs bs = refl
 parts-append (p ∷ ps) qs bs = ap (λ x. take p.1 (drop p.0 bs) ∷ x) (parts-append ps qs bs)
 
-module _ (ps : List (ℕ × ℕ)) (i at n : ℕ) (h : i < length ps) where
-  pub pushed_order : chained 0 (take i ps) at ≡ true → chained 0 (take (i + 1) (set ps i (at, n))) (at + n) ≡ true
-  pushed_order e = ap (λ l. chained 0 l (at + n)) (take_more_set ps i (at, n) h) ∙ chained-push 0 (take i ps) at n e
-
-  pub pushed_parts : (bs b all : Bytes) → at ≡ length bs → n ≡ length b → all ≡ bs ++ b → chained 0 (take i ps) at ≡ true → parts (take (i + 1) (set ps i (at, n))) all ≡ parts (take i ps) bs ++ b ∷ []
-  pushed_parts bs b all a l f e =
-      let C : ℕ → Type 0 = λ x. chained 0 (take i ps) x ≡ true in
-      let g = parts_grow 0 (take i ps) bs b (subst C a e) in
-      let d = drop_at bs b at (sym a) in
-      let t = take_all n b (omega arith) in
-      (λ j. parts (take_more_set ps i (at, n) h j) (f j)) ∙ parts-append (take i ps) ((at, n) ∷ []) (bs ++ b)
-      ∙ (λ j. g j ++ (ap (take n) d ∙ t) j ∷ [])
+pub pushed_parts : (ps : List (ℕ × ℕ)) (at n : ℕ) (bs b all : Bytes) → at ≡ length bs → n ≡ length b → all ≡ bs ++ b → chained 0 ps (length bs) ≡ true → parts (ps ++ (at, n) ∷ []) all ≡ parts ps bs ++ b ∷ []
+pushed_parts ps at n bs b all a l f e =
+    let g = parts_grow 0 ps bs b e in
+    let d = drop_at bs b at (sym a) in
+    let t = take_all n b (omega arith) in
+    ap (parts (ps ++ (at, n) ∷ [])) f ∙ parts-append ps ((at, n) ∷ []) (bs ++ b) ∙ (λ j. g j ++ (ap (take n) d ∙ t) j ∷ [])
 
 pub bodies_push : (bs : List Bytes) (b : Bytes) → are_bodies bs ≡ true → is_body b ≡ true → are_bodies (bs ++ b ∷ []) ≡ true
 bodies_push [] b h k = and_from (is_body b) true k refl
@@ -63,5 +57,14 @@ pub entries-push : (bs : List Bytes) (e : EntryValue) → Fitting e → map entr
 entries-push bs e f = map_push entry_from bs (body e) ∙ ap (λ x. map entry_from bs ++ x ∷ []) (body_back e f)
 
 -- as many entries as pairs
-pub count_entries : (ps : List (ℕ × ℕ)) (i : ℕ) (bs : Bytes) → i ≤ length ps → length (map entry_from (parts (take i ps) bs)) ≡ i
-count_entries ps i bs h = length-map (parts (take i ps) bs) entry_from ∙ length-map (take i ps) _ ∙ length-take-le i ps h
+pub count_entries : (ps : List (ℕ × ℕ)) (bs : Bytes) → length (map entry_from (parts ps bs)) ≡ length ps
+count_entries ps bs = length-map (parts ps bs) entry_from ∙ length-map ps _
+
+-- a result that is there
+pub from_ok : {A E P : Type 0} (r : Result A E) → is_ok r ≡ true → OnOk r P → P
+from_ok (Ok x) k p = p
+from_ok (Err e) k p = absurd (false≢true k)
+
+pub when_ok : {E : Type 0} (r : Result (Unit {0}) E) (P : Unit {0} → Type 0) (Q : E → Type 0) → is_ok r ≡ true → P tt → MatchResult r P Q
+when_ok (Ok x) P Q k p = p
+when_ok (Err e) P Q k p = absurd (false≢true k)

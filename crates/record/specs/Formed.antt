@@ -1,18 +1,14 @@
 -- The form of a record, as a reader goes through the bytes.
-use Rattle.std.specs.Prelude.{ℕ, ◌+◌, Bool, ◌&&◌, List, [], ◌∷◌, ◌++◌, length, take, drop, ◌==◌, nat_le}
+use Rattle.std.specs.Prelude.{ℕ, ◌+◌, Bool, ◌&&◌, List, [], ◌∷◌, length, take, drop, ◌==◌, nat_le}
 use Rattle.names.specs.Names.{Bytes}
 use Rattle.names.specs.Limits.{entries_max}
 use Rattle.record.specs.Limits.{header_size}
-use Rattle.record.specs.Written.{two, front_size}
-use Rattle.record.specs.Read.{number_of_two, count_in, pairs_from, is_body}
+use Rattle.record.specs.Written.{front_size}
+use Rattle.record.specs.Read.{pair_in, count_in, pairs_from, is_body}
 
 -- offset and length of the i-th body
 abbrev pub pair_at : Bytes → ℕ → ℕ × ℕ
-pair_at bs i = (number_of_two (drop (front_size i) bs), number_of_two (drop (front_size i + 2) bs))
-
--- a pair as it stands in the bytes
-abbrev pub pair_bytes : ℕ × ℕ → Bytes
-pair_bytes p = two p.0 ++ two p.1
+pair_at bs i = pair_in (drop (front_size i) bs)
 
 -- the body that a pair names starts at `at`, lies within the bytes and is lawful
 unfoldable pub body_stands : ℕ → ℕ × ℕ → Bytes → Bool

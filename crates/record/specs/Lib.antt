@@ -2,6 +2,8 @@ pub mod Limits
 pub mod Entries
 pub mod Values
 pub mod Written
+pub mod Codes
+pub mod Words
 pub mod Read
 pub mod Laws
 pub mod Filled

@@ -34,10 +34,14 @@ abbrev pub are_bodies : List Bytes → Bool
 are_bodies [] = true
 are_bodies (b ∷ bs) = is_body b && are_bodies bs
 
+-- offset and length, as a pair stands at the front of the bytes
+abbrev pub pair_in : Bytes → ℕ × ℕ
+pair_in bs = (number_of_two bs, number_of_two (drop 2 bs))
+
 -- the first n pairs of offset and length
 abbrev pub pairs_from : ℕ → Bytes → List (ℕ × ℕ)
 pairs_from zero bs = []
-pairs_from (suc n) bs = (number_of_two bs, number_of_two (drop 2 bs)) ∷ pairs_from n (drop 4 bs)
+pairs_from (suc n) bs = pair_in bs ∷ pairs_from n (drop 4 bs)
 
 -- the parts of the bytes that pairs of offset and length name
 abbrev pub parts : List (ℕ × ℕ) → Bytes → List Bytes

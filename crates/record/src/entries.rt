@@ -8,6 +8,7 @@ use crate::entry::Entry;
 use crate::view::RecordView;
 
 /// The entries of a record, in order.
+// A place is kept, and no chain over places: a chain's type names its closure, which no result type can.
 #[derive(Clone, Copy)]
 pub struct Entries<'a> {
     view: RecordView<'a>,
@@ -30,9 +31,7 @@ impl Iterator for Entries<'_> {
     ghost remaining = { λ s. at_most (s.view.count - s.next) };
 
     fn next(&mut self) -> Option<Entry> {
-        let Some(entry) = self.view.entry(self.next) else {
-            return None;
-        };
+        let entry = self.view.entry(self.next)?;
         self.next += 1;
         Some(entry)
     }

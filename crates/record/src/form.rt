@@ -1,58 +1,51 @@
-ghost use Rattle.std.specs.Prelude.{◌≡◌, ◌+◌, ◌*◌, ◌≤◌, true, false, length, take, drop, MatchOption};
-ghost use Rattle.std.specs.List.{flat_map};
-ghost use Rattle.record.specs.Written.{front_size};
-ghost use Rattle.record.specs.Read.{count_in, pairs_from};
-ghost use Rattle.record.specs.Formed.{pair_at, pair_bytes, body_stands, well_formed};
+ghost use Rattle.std.specs.Prelude.{◌≡◌, ◌+◌, true, false, map, length, ◌==◌, MatchOption};
+ghost use Rattle.record.specs.Read.{number_of_four, count_in, pair_in};
+ghost use Rattle.record.specs.Formed.{body_stands, bodies_stand, well_formed};
 
 use crate::decode::{entry_of, pair_of};
 use crate::limits::{HEADER_SIZE, PAIR_SIZE};
 use names::limits::ENTRIES_MAX;
 
-// Where the i-th body ends, if it starts at `at`, lies within the bytes and is lawful.
-fn body_end(bytes: &[u8], i: usize, at: usize) -> Option<usize>
-    requires pair { front_size (i + 1) ≤ length bytes.now }
-    requires start { at ≤ length bytes.now }
-    ensures cases { MatchOption result (body_stands at (pair_at bytes.now i) bytes.now ≡ false) (λ e. (body_stands at (pair_at bytes.now i) bytes.now ≡ true) × (e ≡ at + (pair_at bytes.now i).1) × (e ≤ length bytes.now)) }
-    ensures bytes { pair_bytes (pair_at bytes.now i) ≡ take 4 (drop (front_size i) bytes.now) }
+// Where the body that the pair names ends, if it starts at `at`, lies within the bytes and is lawful.
+fn body_end(bytes: &[u8], at: usize, pair: [u8; PAIR_SIZE]) -> Option<usize>
+    ensures { MatchOption result (body_stands at (pair_in pair) bytes.now ≡ false) (λ e. (body_stands at (pair_in pair) bytes.now ≡ true) × (e ≡ at + (pair_in pair).1)) }
 {
-    let (offset, len) = pair_of(bytes, i);
+    let (offset, len) = pair_of(pair);
     if offset != at {
         return None;
     }
-    if len > bytes.len() - at {
-        return None;
-    }
-    let end = at + len;
-    let Some(_) = entry_of(&bytes[at..end]) else {
-        return None;
-    };
+    let end = offset + len;
+    entry_of(bytes.get(offset..end)?)?;
     Some(end)
 }
 
-// Whether the bytes have the form of a record.
-pub(crate) fn is_formed(bytes: &[u8]) -> bool
-    ensures value { result ≡ well_formed bytes.now }
-    ensures pairs { result ≡ true → flat_map pair_bytes (pairs_from (count_in bytes.now) (drop 5 bytes.now)) ≡ take (4 * count_in bytes.now) (drop 5 bytes.now) }
+// Where the last of the bodies that the pairs name ends, if they stand one behind the other from `at` on.
+fn bodies_end(bytes: &[u8], at: usize, pairs: &[[u8; PAIR_SIZE]]) -> Option<usize>
+    ensures { MatchOption result (bodies_stand at (map pair_in pairs.now) bytes.now ≡ false) (λ e. bodies_stand at (map pair_in pairs.now) bytes.now ≡ (e == length bytes.now)) }
 {
-    if bytes.len() < HEADER_SIZE {
-        return false;
+    let mut end = at;
+    for pair in pairs {
+        end = body_end(bytes, end, *pair)?;
     }
-    let count = bytes[4] as usize;
-    if count == 0 {
-        return false;
+    Some(end)
+}
+
+// The stamp and the number of entries, if the bytes have the form of a record.
+pub(crate) fn header_of(bytes: &[u8]) -> Option<(u32, u8)>
+    ensures { MatchOption result (well_formed bytes.now ≡ false) (λ h. (well_formed bytes.now ≡ true) × (h ≡ (number_of_four bytes.now, count_in bytes.now))) }
+{
+    let [s0, s1, s2, s3, count] = *bytes.first_chunk::<HEADER_SIZE>()?;
+    let entries = usize::from(count);
+    if entries == 0 {
+        return None;
     }
-    if count > ENTRIES_MAX {
-        return false;
+    if entries > ENTRIES_MAX {
+        return None;
     }
-    let mut at = HEADER_SIZE + PAIR_SIZE * count;
-    if at > bytes.len() {
-        return false;
+    let start = HEADER_SIZE + PAIR_SIZE * entries;
+    let (pairs, _) = bytes.get(HEADER_SIZE..start)?.as_chunks();
+    if bodies_end(bytes, start, pairs)? != bytes.len() {
+        return None;
     }
-    for i in 0..count {
-        let Some(end) = body_end(bytes, i, at) else {
-            return false;
-        };
-        at = end;
-    }
-    at == bytes.len()
+    Some((u32::from_le_bytes([s0, s1, s2, s3]), count))
 }

@@ -11,8 +11,8 @@ mod view;
 mod writer;
 
 pub use entries::Entries;
-pub use entry::{Entry, Kind};
+pub use entry::{Entry, Kind, NoKind};
 pub use finished::Record;
+pub use inline_vec::Full;
 pub use view::RecordView;
 pub use writer::RecordWriter;
-pub use writer::methods::Full;

@@ -7,10 +7,10 @@ ghost use Rattle.record.specs.Laws.{Exact};
 ghost use Rattle.record.specs.Values.{value_of};
 ghost use Rattle.record.specs.Views.{Shows, entry_at};
 
-use crate::decode::{entry_of, pair_of, u32_at};
+use crate::decode::{entry_of, pair_of};
 use crate::entries::Entries;
 use crate::entry::Entry;
-use crate::form::is_formed;
+use crate::form::header_of;
 use crate::limits::{HEADER_SIZE, PAIR_SIZE};
 
 /// A record read in place: its stamp, and its entries in order.
@@ -27,11 +27,7 @@ impl<'a> RecordView<'a> {
         ensures law { Exact }
         ensures cases { MatchOption result (record_in bytes.now ≡ Missing) (λ v. Shows bytes.now v) }
     {
-        if !is_formed(bytes) {
-            return None;
-        }
-        let stamp = u32_at(bytes, 0);
-        let count = bytes[4];
+        let (stamp, count) = header_of(bytes)?;
         Some(RecordView {
             stamp,
             count,
@@ -50,7 +46,7 @@ impl<'a> RecordView<'a> {
     pub fn len(&self) -> usize
         ensures { result ≡ self.now.count }
     {
-        self.count as usize
+        usize::from(self.count)
     }
 
     /// The i-th entry, counted from 0.
@@ -59,18 +55,12 @@ impl<'a> RecordView<'a> {
         ensures bound { OnSome result ((i < self.now.count) × (self.now.count < 256)) }
         ensures item { (bs : Bytes) → Shows bs self.now → option_map value_of result ≡ slice_get (entries_in bs) i }
     {
-        if i >= self.count as usize {
+        if i >= self.len() {
             return None;
         }
-        let end = HEADER_SIZE + PAIR_SIZE * (i + 1);
-        if end > self.bytes.len() {
-            return None;
-        }
-        let (offset, len) = pair_of(self.bytes, i);
-        if offset + len > self.bytes.len() {
-            return None;
-        }
-        entry_of(&self.bytes[offset..offset + len])
+        let rest = self.bytes.get(HEADER_SIZE + PAIR_SIZE * i..)?;
+        let (offset, len) = pair_of(*rest.first_chunk()?);
+        entry_of(self.bytes.get(offset..offset + len)?)
     }
 
     /// The entries, in order.

@@ -1,9 +1,9 @@
 -- Hex digits, written and read back.
-use Rattle.std.proofs.Common.{◌≡◌, ℕ, zero, suc, ◌+◌, ◌-◌, ◌*◌, ◌/◌, ◌%◌, ◌<◌, ◌≤◌, cond, ◌&&◌, leb, ◌⊎◌, [], ◌∷◌, ◌++◌, length, get_or, drop, Some, None, Option, sym, refl, ap, ◌∙◌, inl, inr, arith}
+use Rattle.std.proofs.Common.{◌≡◌, ℕ, zero, suc, ◌+◌, ◌-◌, ◌*◌, ◌/◌, ◌%◌, ◌<◌, ◌≤◌, cond, ◌&&◌, leb, ◌⊎◌, List, [], ◌∷◌, ◌++◌, length, get_or, drop, Some, None, Option, sym, refl, ap, ◌∙◌, inl, inr, arith}
 use Rattle.std.proofs.lemmas.List.{append_assoc, append-nil, at_drop_more, at_drop_all}
 use Rattle.std.proofs.lemmas.Bool.{cases_lt, lt-ltb, le-ltb, le-leb, lt-leb, and_from, and_right}
+use Rattle.std.specs.Simd.{first_chunks}
 use Rattle.names.specs.Names.{Bytes}
-use Rattle.record.proofs.Numbers.{two_at}
 use Rattle.recordtext.specs.Hex.{digit, hex_text, digit_value, byte_value, with_byte, hex_bytes, HexBack}
 
 value_below : (n : ℕ) → n < 10 → digit_value (48 + n) ≡ Some n
@@ -60,25 +60,34 @@ odd (suc n) (a ∷ b ∷ cs) h = ap (with_byte (byte_value (digit_value a) (digi
     by None = refl
     by (Some x) = refl
 
--- two digits more are read
-abbrev byte_at : Bytes → ℕ → Option ℕ
-byte_at cs i = byte_value (digit_value (get_or cs (2 * i) 0)) (digit_value (get_or cs (2 * i + 1) 0))
+-- an even number is read two by two
+abbrev pub pair_value : Bytes → Option ℕ
+pair_value p = byte_value (digit_value (get_or p 0 0)) (digit_value (get_or p 1 0))
 
-next_two : (cs : Bytes) (i : ℕ) → 2 * i + 2 ≤ length cs → hex_bytes (drop (2 * i) cs) ≡ with_byte (byte_at cs i) (hex_bytes (drop (2 * (i + 1)) cs))
-next_two cs i h =
-    let e : 2 * i + 2 ≡ 2 * (i + 1) = omega arith in
-    ap hex_bytes (two_at cs (2 * i) h) ∙ ap (λ n. with_byte (byte_at cs i) (hex_bytes (drop n cs))) e
+abbrev pub pairs_bytes : List Bytes → Option Bytes
+pairs_bytes [] = Some []
+pairs_bytes (p ∷ ps) = with_byte (pair_value p) (pairs_bytes ps)
+
+pub even : (n : ℕ) (cs : Bytes) → length cs ≡ 2 * n → pairs_bytes (first_chunks 2 n cs) ≡ hex_bytes cs
+even zero [] h = refl
+even zero (a ∷ cs) h = absurd (omega arith)
+even (suc n) [] h = absurd (omega arith)
+even (suc n) (a ∷ []) h = absurd (omega arith)
+even (suc n) (a ∷ b ∷ cs) h = ap (with_byte (byte_value (digit_value a) (digit_value b))) (even n cs (omega arith))
 
 one_more : (done : Bytes) (b : ℕ) (r : Option Bytes) → ahead (done ++ b ∷ []) r ≡ ahead done (with_byte (Some b) r)
 one_more done b None = refl
 one_more done b (Some bs) = ap (λ x. Some x) (append_assoc done (b ∷ []) bs)
 
-module _ (done cs : Bytes) (i : ℕ) (h : 2 * i + 2 ≤ length cs) where
-  pub byte_next : (b : ℕ) → Some b ≡ byte_at cs i → ahead (done ++ b ∷ []) (hex_bytes (drop (2 * (i + 1)) cs)) ≡ ahead done (hex_bytes (drop (2 * i) cs))
-  byte_next b e = one_more done b _ ∙ ap (λ x. ahead done (with_byte x (hex_bytes (drop (2 * (i + 1)) cs)))) e ∙ ap (ahead done) (sym (next_two cs i h))
+module _ (done : Bytes) (ps : List Bytes) (i : ℕ) (h : i < length ps) where
+  next_pair : (x : Option ℕ) → x ≡ pair_value (get_or ps i []) → ahead done (with_byte x (pairs_bytes (drop (i + 1) ps))) ≡ ahead done (pairs_bytes (drop i ps))
+  next_pair x e = ap (λ x. ahead done (with_byte x (pairs_bytes (drop (i + 1) ps)))) e ∙ ap (ahead done) (sym (at_drop_more pairs_bytes ps i [] h))
 
-  pub byte_none : None ≡ byte_at cs i → None ≡ ahead done (hex_bytes (drop (2 * i) cs))
-  byte_none e = ap (λ x. ahead done (with_byte x (hex_bytes (drop (2 * (i + 1)) cs)))) e ∙ ap (ahead done) (sym (next_two cs i h))
+  pub byte_next : (b : ℕ) → Some b ≡ pair_value (get_or ps i []) → ahead (done ++ b ∷ []) (pairs_bytes (drop (i + 1) ps)) ≡ ahead done (pairs_bytes (drop i ps))
+  byte_next b e = one_more done b _ ∙ next_pair (Some b) e
 
-pub byte_all : (done cs : Bytes) (i : ℕ) → length cs ≤ 2 * i → Some done ≡ ahead done (hex_bytes (drop (2 * i) cs))
-byte_all done cs i h = sym (ap (ahead done) (at_drop_all hex_bytes cs (2 * i) h) ∙ ap (λ x. Some x) (append-nil done))
+  pub byte_none : None ≡ pair_value (get_or ps i []) → None ≡ ahead done (pairs_bytes (drop i ps))
+  byte_none e = next_pair None e
+
+pub byte_all : (done : Bytes) (ps : List Bytes) (i : ℕ) → length ps ≤ i → Some done ≡ ahead done (pairs_bytes (drop i ps))
+byte_all done ps i h = sym (ap (ahead done) (at_drop_all pairs_bytes ps i h) ∙ ap (λ x. Some x) (append-nil done))

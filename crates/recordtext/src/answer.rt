@@ -14,12 +14,11 @@ use std::alloc::{AllocError, Global};
 pub fn record_told(heap: Global, line: &str) -> Result<Option<Record>, AllocError>
     ensures { IfOk result (λ o. IfSome o (λ b. Tells line.now (bytes_of b))) }
 {
+    // `?` would hand out an `Err`, and a line that tells no record is an `Ok`.
     let Some(record) = record_in(line) else {
         return Ok(None);
     };
-    let Some(view) = RecordView::read(record.as_bytes()) else {
-        return Ok(None);
-    };
+    let view = RecordView::read(record.as_bytes()).unwrap();
     let words = describe(heap, view)?;
     if words.as_str() == line {
         Ok(Some(record))
@@ -63,8 +62,7 @@ fn unhexed(heap: Global, line: &str) -> Result<String, AllocError>
 pub fn answer_to(heap: Global, line: &str) -> Result<String, AllocError>
     ensures { IfOk result (λ t. Answered (is_words line.now) line.now (string_bytes t)) }
 {
-    let bytes = line.as_bytes();
-    if bytes.len() > 0 && bytes[0] == b's' {
+    if line.starts_with('s') {
         hexed(heap, line)
     } else {
         unhexed(heap, line)

@@ -3,15 +3,7 @@ ghost use Rattle.std.specs.Option.{option_map};
 ghost use Rattle.recordtext.specs.Hex.{digit, digit_value, byte_value, hex_text, hex_bytes, HexBack};
 
 use std::alloc::{AllocError, Global};
-
-// The digit of a number below 16.
-fn digit_of(n: u8) -> u8
-    requires { n < 16 }
-    ensures value { result ≡ digit n }
-    ensures ascii { result < 128 }
-{
-    if n < 10 { b'0' + n } else { 87 + n }
-}
+use std::fmt::Write;
 
 // The number that a digit stands for.
 fn value_of(digit: u8) -> Option<u8>
@@ -29,22 +21,7 @@ fn value_of(digit: u8) -> Option<u8>
 fn byte_of(high: u8, low: u8) -> Option<u8>
     ensures { result ≡ byte_value (digit_value high) (digit_value low) }
 {
-    let Some(h) = value_of(high) else {
-        return None;
-    };
-    let Some(l) = value_of(low) else {
-        return None;
-    };
-    Some(16 * h + l)
-}
-
-// The two digits of a byte, behind what stands.
-fn push_byte(text: &mut String, b: u8) -> Result<(), AllocError>
-    ensures { OnOk result (string_bytes text.new ≡ string_bytes text.old ++ (digit (b / 16) ∷ digit (b % 16) ∷ [])) }
-{
-    text.push(digit_of(b / 16) as char)?;
-    text.push(digit_of(b % 16) as char)?;
-    Ok(())
+    Some(16 * value_of(high)? + value_of(low)?)
 }
 
 /// The hex digits of the bytes.
@@ -54,7 +31,7 @@ pub fn hex_of(heap: Global, bytes: &[u8]) -> Result<String, AllocError>
 {
     let mut text = String::new(heap);
     for b in bytes {
-        push_byte(&mut text, *b)?;
+        write!(text, "{b:02x}")?;
     }
     Ok(text)
 }
@@ -63,12 +40,14 @@ pub fn hex_of(heap: Global, bytes: &[u8]) -> Result<String, AllocError>
 pub fn bytes_of(heap: Global, text: &[u8]) -> Result<Option<Vec<u8>>, AllocError>
     ensures { IfOk result (λ o. option_map vec_items o ≡ hex_bytes text.now) }
 {
-    let mut bytes = Vec::new(heap);
-    if text.len() % 2 != 0 {
+    let (pairs, odd) = text.as_chunks::<2>();
+    if !odd.is_empty() {
         return Ok(None);
     }
-    for i in 0..text.len() / 2 {
-        let Some(b) = byte_of(text[2 * i], text[2 * i + 1]) else {
+    let mut bytes = Vec::new(heap);
+    // No `?`, since no hex digit is no `Err`, and no `collect`, whose clauses say nothing of an `Option`.
+    for &[high, low] in pairs {
+        let Some(b) = byte_of(high, low) else {
             return Ok(None);
         };
         bytes.push(b)?;

@@ -1,22 +1,16 @@
 -- What is made of a name by an ending is a name, if it is short enough.
 use Rattle.std.proofs.Common.{◌≡◌, ℕ, ◌+◌, ◌≤◌, Bool, true, false, cond, not, leb, [], ◌∷◌, ◌++◌, length, Some, None, codes, Option, sym, refl, ap, ◌∙◌, subst, true≢false, arith, length-append}
-use Rattle.std.proofs.lemmas.Bool.{leb-true, leb-false}
+use Rattle.std.proofs.lemmas.Bool.{cases_Bool, leb-true, leb-false}
 use Rattle.names.specs.Limits.{name_max}
 use Rattle.names.specs.Names.{Bytes, is_name, dot, plain}
 use Rattle.names.proofs.Scan.{scan, lawful_is, lawful-short, too_long}
 use Rattle.script.specs.Candidates.{cut_more, cut_last}
 use Rattle.script.specs.Laws.{CandidatesAreSkippedForLength}
 
-differ : {A : Type 0} → ◌≡◌ {A = ℕ} 0 1 → A
-differ z = absurd (omega arith)
-
 -- one byte more in front
 in_front : (D d P x y x' y' : Bool) → (x ≡ true → x' ≡ true) → (y ≡ true → y' ≡ true)
     → cond D (cond d false x) (cond P y false) ≡ true → cond D (cond d false x') (cond P y' false) ≡ true
-in_front true true P x y x' y' p q h = h
-in_front true false P x y x' y' p q h = p h
-in_front false d true x y x' y' p q h = q h
-in_front false d false x y x' y' p q h = h
+in_front D d P x y x' y' p q h = grind (arith, cases_Bool D, cases_Bool d, cases_Bool P)
 
 scan_do : (d : Bool) (s : Bytes) → scan d s ≡ true → scan d (s ++ codes ".do") ≡ true
 scan_do true [] h = absurd (true≢false (sym h))
@@ -25,15 +19,13 @@ scan_do d (b ∷ bs) h = in_front (dot b) d (plain b) _ _ _ _ (scan_do true bs) 
 
 -- behind a dot, and before it
 behind_dot : (D d P x y : Bool) → D ≡ true → cond D (cond d false x) (cond P y false) ≡ true → (d ≡ false) × (x ≡ true)
-behind_dot true true P x y e h = absurd (true≢false (sym h))
-behind_dot true false P x y e h = (refl, h)
-behind_dot false d P x y e h = absurd (true≢false (sym e))
+behind_dot D d P x y e h = grind (arith, cases_Bool D, cases_Bool d)
 
 scan_tail : (D d P x y : Bool) (E : Type 0) → (x ≡ true → E) → (y ≡ true → E) → cond D (cond d false x) (cond P y false) ≡ true → E
-scan_tail true true P x y E p q h = absurd (true≢false (sym h))
+scan_tail true true P x y E p q h = absurd (cc)
 scan_tail true false P x y E p q h = p h
 scan_tail false d true x y E p q h = q h
-scan_tail false d false x y E p q h = absurd (true≢false (sym h))
+scan_tail false d false x y E p q h = absurd (cc)
 
 abbrev Cut : Type 0
 Cut = Option (Bytes × Bytes)
@@ -42,7 +34,7 @@ cut_here : (b : ℕ) (bs a e : Bytes) (D : Bool) → dot b ≡ D → cond {A = C
 cut_here b bs a e true h k =
     let q : ◌≡◌ {A = Bytes × Bytes} ([], bs) (a, e) = cc in
     (h, ap (λ (x : Bytes × Bytes). x.0) q, ap (λ (x : Bytes × Bytes). x.1) q)
-cut_here b bs a e false h k = let z : ◌≡◌ {A = ℕ} 0 1 = cc in differ z
+cut_here b bs a e false h k = absurd (cc)
 
 abbrev Parts : Bool → Bytes → Bytes → Bytes → Type 0
 Parts d t a e = (scan d a ≡ true) × (scan true e ≡ true) × (length a ≤ length t)
@@ -73,7 +65,7 @@ module _ (d : Bool) (b : ℕ) (bs a e : Bytes) (h : scan d (b ∷ bs) ≡ true)
       )
 
 scan_parts : (d : Bool) (t a e : Bytes) → scan d t ≡ true → cut_last t ≡ Some (a, e) → Parts d t a e
-scan_parts d [] a e h k = let z : ◌≡◌ {A = ℕ} 0 1 = cc in differ z
+scan_parts d [] a e h k = absurd (cc)
 scan_parts d (b ∷ bs) a e h k = by_rest d b bs a e h (λ c x y. scan_parts c bs x y) (cut_last bs) refl k
 
 name_by_length : (s : Bytes) (b : Bool) → leb (length s) name_max ≡ b → scan true s ≡ true → is_name s ≡ b

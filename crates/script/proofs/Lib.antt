@@ -1,7 +1,7 @@
-pub mod Texts
-pub mod Looks
-pub mod Runs
-pub mod Cuts
-pub mod Stems
 pub mod Scripts
 pub mod Lengths
+pub mod Cuts
+pub mod Lookups
+pub mod Fills
+pub mod Stems
+pub mod Runs

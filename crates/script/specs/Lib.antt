@@ -4,6 +4,7 @@ pub mod Tree
 pub mod Candidates
 pub mod Search
 pub mod Pages
+pub mod Templates
 pub mod Made
 pub mod View
 pub mod Searched

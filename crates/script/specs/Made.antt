@@ -1,5 +1,5 @@
 -- The entries that a run has made, by what they mean.
-use Rattle.std.specs.Prelude.{List, map, take}
+use Rattle.std.specs.Prelude.{List, map}
 use Rattle.names.specs.Spelled.{spelled}
 use Rattle.script.specs.Pages.{content}
 use Rattle.script.specs.Tree.{Entered}
@@ -10,4 +10,4 @@ abbrev pub seen : Entry → Entered
 seen e = record { kind = e.kind; name = spelled e.name; bytes = content e.bytes }
 
 abbrev pub entries : Entries → List Entered
-entries es = map seen (take es.count es.slots)
+entries es = map seen es.made.items

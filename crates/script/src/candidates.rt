@@ -1,10 +1,11 @@
-ghost use Rattle.std.specs.Prelude.{◌≡◌, ℕ, ◌+◌, ◌<◌, ◌≤◌, false, ◌++◌, MatchOption};
+ghost use Rattle.std.specs.Prelude.{◌≡◌, ◌≢◌, ℕ, ◌<◌, false, ◌++◌, length, slice_index, MatchOption, IfSome, IfNone};
+ghost use Rattle.std.specs.Iterator.{YieldsFirst, item_count};
 ghost use Rattle.names.specs.Names.{is_name};
 ghost use Rattle.names.specs.Spelled.{spelled};
 ghost use Rattle.script.specs.Candidates.{candidates, own, by_ending, fallback};
-ghost use Rattle.script.specs.Searched.{listed, candidate, stemmed, Parted, to_come, Yields};
+ghost use Rattle.script.specs.Searched.{listed, candidate, Parted, left, to_come};
 
-use crate::lines::put;
+use inline_vec::InlineVec;
 use names::Name;
 use names::limits::NAME_MAX;
 
@@ -15,83 +16,77 @@ pub struct Candidate {
     stem_len: usize,
 }
 
-/// Which kind of candidate comes next.
-#[derive(Clone, Copy)]
-pub enum Stage {
-    Own,
-    Ending,
-    Fallback,
-    Over,
-}
-
-/// The scripts that may make the page of a target, in the order of the search.
+/// The scripts that may make the page of a target, in the order of the search: those that are still to come.
 #[derive(Clone, Copy)]
 pub struct Candidates {
-    target: Name,
-    stage: Stage,
+    own: Option<Candidate>,
+    ending: Option<Candidate>,
+    fallback: Option<Candidate>,
 }
 
 /// The name that three pieces spell together, if it is one.
+#[tactic(auto, using(crate::proofs::Stems::joined_long, crate::proofs::Stems::joined_over))]
 fn join(a: &[u8], b: &[u8], c: &[u8]) -> Option<Name>
     ensures { MatchOption result (is_name (a.now ++ (b.now ++ c.now)) ≡ false) (λ n. spelled n ≡ a.now ++ (b.now ++ c.now)) }
 {
-    let mut bytes = [0; NAME_MAX];
-    let Some(one) = put(&mut bytes, 0, a) else {
-        return None;
-    };
-    let Some(two) = put(&mut bytes, one, b) else {
-        return None;
-    };
-    let Some(three) = put(&mut bytes, two, c) else {
-        return None;
-    };
-    Name::new(&bytes[0..three])
+    let mut bytes = InlineVec::<u8, NAME_MAX>::new(0);
+    bytes.try_extend(a).ok()?;
+    bytes.try_extend(b).ok()?;
+    bytes.try_extend(c).ok()?;
+    Name::new(bytes.as_slice())
+}
+
+/// The place of the last dot.
+fn last_dot(name: &[u8]) -> Option<usize>
+    ensures none { IfNone result ((k : ℕ) → k < length name.now → slice_index name.now k ≢ 46) }
+    ensures last { IfSome result (λ i. (i < length name.now) × (slice_index name.now i ≡ 46)
+        × ((k : ℕ) → i < k → k < length name.now → slice_index name.now k ≢ 46)) }
+{
+    name.iter().rposition(|b| *b == b'.')
 }
 
 /// What precedes and what follows the last dot.
+#[tactic(auto, using(crate::proofs::Cuts::dotless, crate::proofs::Cuts::last_dot))]
 fn cut_last(name: &[u8]) -> Option<(&[u8], &[u8])>
     ensures { Parted result name.now }
 {
-    for i in (0..name.len()).rev() {
-        if name[i] == b'.' {
-            return Some((&name[0..i], &name[i + 1..]));
-        }
-    }
-    None
-}
-
-/// The candidate that a script's name makes, where it is a name.
-fn with_stem(script: Option<Name>, stem_len: usize) -> Option<Candidate>
-    ensures { result ≡ stemmed script stem_len }
-{
-    match script {
-        Some(script) => Some(Candidate { script, stem_len }),
-        None => None,
-    }
+    let i = last_dot(name)?;
+    Some((&name[..i], &name[i + 1..]))
 }
 
 /// `t.do`.
 fn own_script(target: &[u8]) -> Option<Candidate>
     ensures { listed target.now result ≡ own target.now }
 {
-    with_stem(join(b"", target, b".do"), target.len())
+    let script = join(b"", target, b".do")?;
+    Some(Candidate {
+        script,
+        stem_len: target.len(),
+    })
 }
 
 /// `default.E.do`, where E follows the last dot.
 fn ending_script(target: &[u8]) -> Option<Candidate>
     ensures { listed target.now result ≡ by_ending target.now }
 {
-    match cut_last(target) {
-        Some((stem, ending)) => with_stem(join(b"default.", ending, b".do"), stem.len()),
-        None => None,
-    }
+    let (stem, ending) = cut_last(target)?;
+    let script = join(b"default.", ending, b".do")?;
+    Some(Candidate {
+        script,
+        stem_len: stem.len(),
+    })
 }
 
 /// `default.do`.
+#[tactic(auto, unfolding(names::specs::Names::is_name))]
 fn fallback_script(target: &[u8]) -> Option<Candidate>
     ensures { listed target.now result ≡ fallback target.now }
 {
-    with_stem(Name::new(b"default.do"), target.len())
+    let script = Name::new(b"default.do")?;
+    Some(Candidate {
+        script,
+        stem_len: target.len(),
+    })
 }
 
 impl Candidate {
@@ -99,48 +94,47 @@ impl Candidate {
     pub fn stem<'a>(&self, target: &'a [u8]) -> &'a [u8]
         ensures { result.now ≡ (candidate target.now self.now).stem }
     {
-        if self.stem_len <= target.len() {
-            &target[0..self.stem_len]
-        } else {
-            target
-        }
+        target.get(..self.stem_len).unwrap_or(target)
     }
 }
 
 impl Candidates {
     /// All candidates of a target.
     pub fn new(target: Name) -> Candidates
-        ensures { (to_come result ≡ candidates (spelled target)) × (result.target ≡ target) }
+        ensures { to_come (spelled target) result ≡ candidates (spelled target) }
     {
-        let stage = if target.as_bytes().ends_with(b".do") {
-            Stage::Over
-        } else {
-            Stage::Own
-        };
-        Candidates { target, stage }
+        let target = target.as_bytes();
+        if target.ends_with(b".do") {
+            return Candidates {
+                own: None,
+                ending: None,
+                fallback: None,
+            };
+        }
+        Candidates {
+            own: own_script(target),
+            ending: ending_script(target),
+            fallback: fallback_script(target),
+        }
     }
+}
+
+impl Iterator for Candidates {
+    type Item = Candidate;
+
+    ghost next_gives = { YieldsFirst left };
+
+    ghost remaining = { item_count left };
 
     /// The next candidate, if there is one more.
-    pub fn next(&mut self) -> Option<Candidate>
-        ensures yields { Yields (spelled self.old.target) result (to_come self.old) (to_come self.new) }
-        ensures keeps { self.new.target ≡ self.old.target }
-    {
-        if let Stage::Own = self.stage {
-            self.stage = Stage::Ending;
-            if let Some(own) = own_script(self.target.as_bytes()) {
-                return Some(own);
-            }
+    // No `or_else`: of a closure that changes what it captures, the proof does not know what it leaves.
+    fn next(&mut self) -> Option<Candidate> {
+        if let Some(own) = self.own.take() {
+            return Some(own);
         }
-        if let Stage::Ending = self.stage {
-            self.stage = Stage::Fallback;
-            if let Some(ending) = ending_script(self.target.as_bytes()) {
-                return Some(ending);
-            }
+        if let Some(ending) = self.ending.take() {
+            return Some(ending);
         }
-        if let Stage::Fallback = self.stage {
-            self.stage = Stage::Over;
-            return fallback_script(self.target.as_bytes());
-        }
-        None
+        self.fallback.take()
     }
 }

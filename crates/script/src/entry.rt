@@ -1,14 +1,12 @@
-ghost use Rattle.std.specs.Prelude.{◌≡◌, ℕ, ◌≤◌, length};
-ghost use Rattle.names.specs.Limits.{entries_max};
-
 use crate::page::Page;
+use inline_vec::InlineVec;
 use names::Name;
 use names::limits::ENTRIES_MAX;
 
 mod methods;
 
 /// As what a run has entered a name: as its script, as needed, or as absent.
-#[derive(Clone, Copy)]
+#[derive(Clone, Copy, PartialEq, Eq, Debug)]
 pub enum Kind {
     Script,
     Needed,
@@ -23,11 +21,8 @@ pub struct Entry {
     bytes: Page,
 }
 
-/// The entries that a run has made, in order. The first `count` slots count.
+/// The entries that a run has made, in order.
 #[derive(Clone, Copy)]
 pub struct Entries {
-    slots: [Entry; ENTRIES_MAX],
-    count: u8,
-    ghost fixed: { length slots ≡ entries_max },
-    ghost few: { count ≤ entries_max },
+    made: InlineVec<Entry, ENTRIES_MAX>,
 }

@@ -6,10 +6,11 @@ pub mod laws;
 mod lines;
 mod page;
 mod run;
+mod template;
 mod word;
 
 pub use candidates::{Candidate, Candidates};
 pub use entry::{Entries, Kind};
-pub use page::Page;
-pub use run::{Question, Run, Step};
+pub use page::{Page, PageFull};
+pub use run::{Question, Run};
 pub use word::{Mode, Rest, Spelled, Word};

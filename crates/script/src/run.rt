@@ -4,10 +4,18 @@ ghost use Rattle.names.specs.Limits.{page_max};
 use crate::entry::Entries;
 use crate::page::Page;
 use crate::word::{Mode, Word};
-use faults::ScriptFault;
 use names::Name;
 
 mod steps;
+mod words;
+
+/// What the words of a script change: the page so far, the entries made, and whether the next line is looked at.
+#[derive(Clone, Copy)]
+pub struct Work {
+    mode: Mode,
+    page: Page,
+    entries: Entries,
+}
 
 /// A script that is being run: a value that is asked for its next step, and told what a name turned out to be.
 /// `line` counts the lines read so far, and `rest` is the text behind them.
@@ -16,9 +24,7 @@ pub struct Run<'a> {
     stem: &'a [u8],
     rest: &'a [u8],
     line: u16,
-    mode: Mode,
-    page: Page,
-    entries: Entries,
+    work: Work,
     ghost short: { line + length rest.now ≤ page_max },
 }
 
@@ -27,12 +33,4 @@ pub struct Run<'a> {
 pub struct Question {
     pub word: Word,
     pub name: Name,
-}
-
-/// Where a run stops: at its end, at a fault, or to ask what a name is.
-#[derive(Clone, Copy)]
-pub enum Step {
-    Done,
-    Fault(ScriptFault),
-    Ask(Question),
 }

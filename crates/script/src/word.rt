@@ -1,11 +1,14 @@
 ghost use Rattle.std.specs.Prelude.{◌≡◌};
+ghost use Rattle.std.specs.List.{find as find_first};
+ghost use Rattle.std.specs.Option.{option_copied};
+ghost use Rattle.std.specs.Str.{bytes_eq};
 ghost use Rattle.script.specs.Lines.{after};
 ghost use Rattle.script.specs.Words.{table, find, idle, spelled_by};
 
 use crate::lines::cut;
 
 /// The words of a script.
-#[derive(Clone, Copy)]
+#[derive(Clone, Copy, PartialEq, Eq, Debug)]
 pub enum Word {
     Need,
     IfCreate,
@@ -15,14 +18,15 @@ pub enum Word {
 }
 
 /// The form of what follows a word.
-#[derive(Clone, Copy)]
+#[derive(Clone, Copy, PartialEq, Eq, Debug)]
 pub enum Rest {
     Name,
     Text,
 }
 
 /// What a line of a script begins with.
-#[derive(Clone, Copy)]
+// Three ways and no Result: an unknown word in a skipped line is no fault, so no `?` may stand before the mode is matched.
+#[derive(Clone, Copy, PartialEq, Eq, Debug)]
 pub enum Spelled {
     Nothing,
     Unknown,
@@ -30,7 +34,7 @@ pub enum Spelled {
 }
 
 /// Whether the next line of a script is looked at.
-#[derive(Clone, Copy)]
+#[derive(Clone, Copy, PartialEq, Eq, Debug)]
 pub enum Mode {
     Running,
     Skipping,
@@ -72,26 +76,25 @@ const WORDS: [Row; 5] = [
     },
 ];
 
+/// The row of the word that these bytes spell.
+fn row_of<'a>(rows: &'a [Row], text: &[u8]) -> Option<&'a Row>
+    ensures { option_copied result ≡ find_first (λ r. bytes_eq r.text.now text.now) rows.now }
+{
+    rows.iter().find(|row| row.text == text)
+}
+
 /// The word that these bytes spell, with the form of its rest.
 fn find_word(text: &[u8]) -> Spelled
     ensures { result ≡ find table text.now }
 {
-    for row in &WORDS {
-        if row.text == text {
-            return Spelled::Known(row.word, row.rest);
-        }
-    }
-    Spelled::Unknown
+    row_of(&WORDS, text).map_or(Spelled::Unknown, |row| Spelled::Known(row.word, row.rest))
 }
 
 /// Does this line do nothing?
 fn is_idle(line: &[u8]) -> bool
     ensures { result ≡ idle line.now }
 {
-    match line {
-        [] => true,
-        [first, ..] => *first == b'#',
-    }
+    matches!(line, [] | [b'#', ..])
 }
 
 /// The word that a line begins with, and what follows its blank.

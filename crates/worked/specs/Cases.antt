@@ -5,7 +5,7 @@ use Rattle.names.specs.Names.{Bytes, is_name}
 use Rattle.faults.specs.declared.fault.ScriptFault.TheVariants.{Cycle, TooDeep}
 use Rattle.clean.specs.Files.{Files}
 use Rattle.clean.specs.Evaluate.{made, failed, clean}
-use Rattle.clean.specs.declared.fault.Cause.TheVariants.{Script}
+use Rattle.faults.specs.declared.cause.Cause.TheVariants.{Script}
 
 -- the files of a list, the first of a name counting
 abbrev pub laying : List (Bytes × Bytes) → Files

@@ -25,11 +25,7 @@ impl Files {
     pub fn get(&self, name: &Name) -> Option<Page>
         ensures { option_map content result ≡ laid self.now (spelled name.now) }
     {
-        if self.map.contains_key(name) {
-            Some(self.map[name])
-        } else {
-            None
-        }
+        self.map.get(name).copied()
     }
 
     /// Lays a file; where there is no memory for it, nothing changes.
@@ -37,10 +33,8 @@ impl Files {
         ensures { MatchResult result (λ _. (n : Bytes) → laid self.new n ≡ with_file (laid self.old) (spelled name) (Laid (content bytes)) n)
             (λ _. (n : Bytes) → laid self.new n ≡ laid self.old n) }
     {
-        match self.map.insert(name, bytes) {
-            Ok(_) => Ok(()),
-            Err(_) => Err(AllocError),
-        }
+        self.map.insert(name, bytes)?;
+        Ok(())
     }
 
     /// Takes a laid file away, and says whether there was one.

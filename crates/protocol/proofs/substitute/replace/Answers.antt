@@ -1,6 +1,6 @@
-use Rattle.std.proofs.Common.{◌<◌, ◌++◌, map, length, get_or, set, ap, ◌∙◌, ap₂, append-nil, arith}
+use Rattle.std.proofs.Common.{◌<◌, length, get_or, set, ap, ◌∙◌, arith}
 use Rattle.std.proofs.lemmas.List.Edits.{map_over_more}
-use Rattle.std.proofs.lemmas.List.{take_all, drop_all, get_or_default}
+use Rattle.std.proofs.lemmas.List.{get_or_default}
 use Rattle.protocol.specs.Substitutes.{replaced}
 use Rattle.protocol.proofs.substitute.replace.Goals as goal
 
@@ -12,11 +12,3 @@ loop-b-preserved c =
     let h : i < length ys = omega (arith, c.loop-b.auto.bytes, c.loop-b-test.true) in
     ap (set ys i) c.substitute.ensures
     ∙ map_over_more f c.args.bytes.now ys i (get_or ys i 0) c.loop-b-test.true c.loop-b.invariant (get_or_default ys i 0 (get_or ys i 0) h)
-
-pub returns : goal.returns
-returns c =
-    let xs = c.args.bytes.now in
-    let i = c.loop-b.b-index in
-    let f = replaced c.args.from c.args.to in
-    c.loop-b.invariant
-    ∙ (ap₂ (λ a b. map f a ++ b) (take_all i xs c.loop-b-test.false) (drop_all i xs c.loop-b-test.false) ∙ append-nil (map f xs))

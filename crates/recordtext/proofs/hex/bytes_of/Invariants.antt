@@ -1,7 +1,6 @@
-use Rattle.std.proofs.Common.{◌≡◌, ◌*◌, drop, vec_items}
-use Rattle.recordtext.specs.Hex.{hex_bytes}
-use Rattle.recordtext.proofs.Digits.{ahead}
+use Rattle.std.proofs.Common.{◌≡◌, drop, vec_items}
+use Rattle.recordtext.proofs.Digits.{ahead, pairs_bytes}
 use Rattle.recordtext.proofs.hex.bytes_of.Given as goal
 
-abbrev pub invariant-loop-i : goal.invariant-loop-i
-invariant-loop-i l = ahead (vec_items l.bytes) (hex_bytes (drop (2 * l.i) l.text)) ≡ hex_bytes l.text
+abbrev pub invariant-loop-high : goal.invariant-loop-high
+invariant-loop-high l = ahead (vec_items l.bytes) (pairs_bytes (drop l.high-index l.pairs)) ≡ pairs_bytes l.pairs

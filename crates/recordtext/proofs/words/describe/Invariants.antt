@@ -6,7 +6,7 @@ use Rattle.record.specs.Views.{Shows}
 use Rattle.recordtext.specs.Words.{entry_words}
 use Rattle.recordtext.proofs.words.describe.Given as goal
 
-abbrev pub invariant-loop-item : goal.invariant-loop-item
-invariant-loop-item l =
-    (l.item-iterator.view ≡ l.initial.item-iterator.view)
-    × ((bs : Bytes) → Shows bs l.initial.item-iterator.view → string_bytes l.text ≡ (codes "stamp " ++ decimal l.stamp) ++ flat_map entry_words (take l.item-iterator.next (entries_in bs)))
+abbrev pub invariant-loop-entry : goal.invariant-loop-entry
+invariant-loop-entry l =
+    (l.entry-iterator.view ≡ l.initial.entry-iterator.view)
+    × ((bs : Bytes) → Shows bs l.initial.entry-iterator.view → string_bytes l.text ≡ (codes "stamp " ++ decimal l.stamp) ++ flat_map entry_words (take l.entry-iterator.next (entries_in bs)))

@@ -1,13 +1,10 @@
-use Rattle.std.proofs.Common.{rules}
+use Rattle.std.proofs.Common.{map, take, ap, sym, ◌∙◌}
+use Rattle.std.proofs.lemmas.List.{take-map, map_push}
 use Rattle.names.specs.Limits.{depth_max}
 use Rattle.names.specs.Spelled.{spelled}
-use Rattle.names.proofs.Capped.{capped_more, capped-full}
 use Rattle.clean.proofs.chain.Chain.with.Goals as goal
-
-pub returns-then-len-ge-DEPTH_MAX : goal.returns-then-len-ge-DEPTH_MAX
-returns-then-len-ge-DEPTH_MAX c =
-    capped-full spelled depth_max c.args.self.now.targets c.args.self.now.len (search rules) (spelled c.args.target) (search rules) (search rules)
 
 pub returns : goal.returns
 returns c =
-    capped_more spelled depth_max c.args.self.now.targets c.args.self.now.len (search rules) c.args.target (search rules)
+    ap (map spelled) c.try_push.ensures.capped ∙ sym (take-map spelled depth_max _)
+    ∙ ap (take depth_max) (map_push spelled c.args.self.now.targets.items c.args.target)

@@ -1,19 +1,22 @@
-use Rattle.std.proofs.Common.{codes, sym, refl, ap, ◌∙◌}
-use Rattle.names.specs.Spelled.{spelled}
-use Rattle.script.specs.Candidates.{ends_in}
-use Rattle.script.proofs.Stems.{ends_told, no_target, all_candidates}
+use Rattle.std.proofs.Common.{◌≡◌, ◌++◌, [], ◌∙◌, subst}
+use Rattle.names.specs.Names.{Bytes}
+use Rattle.script.specs.Candidates.{candidates}
+use Rattle.script.specs.Searched.{to_come}
+use Rattle.script.specs.declared.candidates.Candidates.{Candidates}
+use Rattle.script.proofs.Stems.{parts, ends_told, no_target, all_candidates}
 use Rattle.script.proofs.candidates.Candidates.new.Goals as goal
 
 pub returns-then-ends_with : goal.returns-then-ends_with
-returns-then-ends_with c = (
-  no_target (spelled c.args.target)
-      (ap (ends_in (codes ".do")) (sym c.as_bytes.ensures.value) ∙ (ends_told c.as_bytes.result.now c.ends_with.result c.ends_with.ensures.value ∙ c.if-ends_with.true)),
-  refl,
-)
+returns-then-ends_with c =
+    let t = c.as_bytes-target.result.now in
+    subst (λ (n : Bytes). [] ≡ candidates n) c.as_bytes-target.ensures.value
+    (no_target t (ends_told t c.ends_with.result c.ends_with.ensures.value ∙ c.if-ends_with.true))
 
-pub returns-else-ends_with : goal.returns-else-ends_with
-returns-else-ends_with c = (
-  all_candidates (spelled c.args.target)
-      (ap (ends_in (codes ".do")) (sym c.as_bytes.ensures.value) ∙ (ends_told c.as_bytes.result.now c.ends_with.result c.ends_with.ensures.value ∙ c.if-ends_with.false)),
-  refl,
-)
+pub returns : goal.returns
+returns c =
+    let t = c.as_bytes-target.result.now in
+    let cs : Candidates = record { own = c.own_script.result; ending = c.ending_script.result; fallback = c.fallback_script.result } in
+    subst (λ (n : Bytes). to_come n cs ≡ candidates n) c.as_bytes-target.ensures.value
+    (parts t cs
+    ∙ ((λ i. c.own_script.ensures i ++ (c.ending_script.ensures i ++ c.fallback_script.ensures i))
+    ∙ all_candidates t (ends_told t c.ends_with.result c.ends_with.ensures.value ∙ c.if-ends_with.false)))
