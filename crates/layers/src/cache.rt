@@ -125,6 +125,7 @@ impl<D: Disk> Disk for ReadCache<D> {
         let Some(n) = self.below.read(key, into)? else {
             return Ok(None);
         };
+        // No read gives more than a block holds.
         let Some(block) = Block::new(&into[..n]) else {
             return Ok(Some(n));
         };
