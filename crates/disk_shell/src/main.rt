@@ -39,39 +39,39 @@ fn call(rt: &HostRuntime, stack: &mut Stack, call: Call, text: &str) -> io::Resu
     print(rt, reply, &buffer)
 }
 
-fn on_stack(rt: &HostRuntime, stack: &mut Stack, command: Command, text: &str) -> io::Result<()> {
-    match command {
-        Command::Start { .. } => Ok(()),
-        Command::Call(asked) => call(rt, stack, asked, text),
-        Command::Restart { charge, pick } => {
-            stack.restart(charge, pick);
-            println!(rt; "ok")
-        }
-    }
-}
-
 fn answer(rt: &HostRuntime, stack: Option<Stack>, line: &str) -> io::Result<Option<Stack>> {
     let mut words = Words::new(line);
     let Some(command) = parse(&mut words) else {
         println!(rt; "garbled")?;
         return Ok(stack);
     };
-    if let Command::Start {
-        layers,
-        bytes,
-        charge,
-    } = command
-    {
-        let mut fresh = Stack::new(rt.alloc(), layers, bytes as usize, charge)?;
-        call(rt, &mut fresh, Call::Count, "")?;
-        return Ok(Some(fresh));
+    match (command, stack) {
+        (
+            Command::Start {
+                layers,
+                bytes,
+                charge,
+            },
+            _,
+        ) => {
+            let mut fresh = Stack::new(rt.alloc(), layers, bytes as usize, charge)?;
+            call(rt, &mut fresh, Call::Count, "")?;
+            Ok(Some(fresh))
+        }
+        (Command::Call(asked), Some(mut stack)) => {
+            call(rt, &mut stack, asked, words.text().unwrap_or(""))?;
+            Ok(Some(stack))
+        }
+        (Command::Restart { charge, pick }, Some(mut stack)) => {
+            stack.restart(charge, pick);
+            println!(rt; "ok")?;
+            Ok(Some(stack))
+        }
+        (_, None) => {
+            println!(rt; "no disk")?;
+            Ok(None)
+        }
     }
-    let Some(mut stack) = stack else {
-        println!(rt; "no disk")?;
-        return Ok(None);
-    };
-    on_stack(rt, &mut stack, command, words.text().unwrap_or(""))?;
-    Ok(Some(stack))
 }
 
 fn main(rt: HostRuntime) -> io::Result<()> {
