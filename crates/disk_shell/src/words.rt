@@ -1,7 +1,7 @@
 ghost use Rattle.std.specs.Prelude.{◌≡◌, Some};
 
 /// The words of a line that are still to be read, and the text behind them.
-#[derive(Clone, Copy)]
+#[derive(Drop)]
 pub struct Words<'a> {
     rest: Option<&'a str>,
 }
