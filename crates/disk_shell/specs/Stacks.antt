@@ -4,7 +4,7 @@ use Rattle.disk.specs.DiskState.{DiskState, blank}
 use Rattle.two_copy.specs.Places.{places_in}
 use Rattle.two_copy.specs.Described.{Describes}
 use Rattle.layers.specs.Capped.{capped, Capped}
-use Rattle.layers.specs.Holds.{Agree}
+use Rattle.layers.specs.Holds.{Caches}
 use Rattle.disk_shell.specs.declared.stack.Layers.{Layers}
 use Rattle.disk_shell.specs.declared.stack.Layers.TheVariants.{Bare as AsBare, Quota as AsQuota, Cache as AsCache, QuotaOverCache as AsQuotaOverCache, CacheOverQuota as AsCacheOverQuota}
 use Rattle.disk_shell.specs.declared.stack.Stack.{Stack}
@@ -13,9 +13,9 @@ use Rattle.disk_shell.specs.declared.stack.Stack.TheVariants.{Bare, Quota, Cache
 abbrev pub Models : Stack → DiskState → Type 0
 Models (Bare d) m = Describes d m
 Models (Quota d) m = Capped (Describes d.below) d.cap m
-Models (Cache d) m = Describes d.below m × Agree m d.holds
-Models (QuotaOverCache d) m = Capped (λ n. Describes d.below.below n × Agree n d.below.holds) d.cap m
-Models (CacheOverQuota d) m = Capped (Describes d.below.below) d.below.cap m × Agree m d.holds
+Models (Cache d) m = Caches Describes d m
+Models (QuotaOverCache d) m = Capped (Caches Describes d.below) d.cap m
+Models (CacheOverQuota d) m = Caches (λ q. Capped (Describes q.below) q.cap) d m
 
 -- how a stack begins: empty, and with as many keys as its quota leaves
 abbrev pub start : Layers → ℕ → ℕ → DiskState

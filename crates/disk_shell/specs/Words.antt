@@ -1,13 +1,8 @@
 -- The words of a line: what single blanks divide.
-use Rattle.std.specs.Prelude.{ℕ, suc, cond, [], ◌∷◌, Some, None, Option, ◌==◌}
+use Rattle.std.specs.Prelude.{cond, [], ◌∷◌, Some, None, Option, ◌==◌}
 use Rattle.std.specs.Borrow.{Bor}
 use Rattle.names.specs.Names.{Bytes}
 use Rattle.disk_shell.specs.declared.words.Words.{Words}
-
--- the first blank; where there is none, the number of bytes
-abbrev pub blank_at : Bytes → ℕ
-blank_at [] = 0
-blank_at (b ∷ bs) = cond (b == 32) 0 (suc (blank_at bs))
 
 -- the bytes before the first blank
 abbrev pub first_word : Bytes → Bytes

@@ -1,139 +1,110 @@
 use crate::stack::Layers;
 use crate::words::Words;
-use crate::words::methods::decimal;
 use disk::{Call, Key};
 use names::Name;
+use protocol::decimal::decimal;
 
 /// What a line asks for. What a store writes is the rest of its line.
 #[derive(Clone, Copy)]
 pub enum Command {
-    Start(Layers, u32, u16),
+    Start {
+        layers: Layers,
+        bytes: u32,
+        charge: u16,
+    },
     Call(Call),
-    Restart(u16, u16),
+    Restart {
+        charge: u16,
+        pick: u16,
+    },
 }
 
-fn number(words: &mut Words, most: u32) -> Option<u32> {
-    decimal(words.next()?, most)
+/// The bytes of memory that a stack is started over, at most.
+const BYTES_MAX: u32 = 1_000_000_000;
+
+fn number<T: TryFrom<u32, Error: Drop>>(words: &mut Words, most: u32) -> Option<T> {
+    T::try_from(decimal(words.next()?.as_bytes(), most)?).ok()
 }
 
-fn number16(words: &mut Words) -> Option<u16> {
-    u16::try_from(number(words, 65535)?).ok()
-}
-
-fn number8(words: &mut Words) -> Option<u8> {
-    u8::try_from(number(words, 255)?).ok()
+fn name(words: &mut Words) -> Option<Name> {
+    Name::new(words.next()?.as_bytes())
 }
 
 fn key(words: &mut Words) -> Option<Key> {
-    let kind = words.next()?;
-    if kind == b"draft".as_slice() {
-        return Some(Key::Draft);
-    }
-    if kind == b"stamp".as_slice() {
-        return Some(Key::Stamp);
-    }
-    let name = Name::new(words.next()?)?;
-    if kind == b"laid".as_slice() {
-        return Some(Key::Laid(name));
-    }
-    if kind == b"made".as_slice() {
-        return Some(Key::Made(name));
-    }
-    if kind == b"record".as_slice() {
-        return Some(Key::Record(name));
-    }
-    None
-}
-
-fn expect_base(words: &mut Words) -> Option<()> {
-    if words.next()? == b"sheet".as_slice() {
-        Some(())
-    } else {
-        None
+    match words.next()? {
+        "laid" => Some(Key::Laid(name(words)?)),
+        "made" => Some(Key::Made(name(words)?)),
+        "record" => Some(Key::Record(name(words)?)),
+        "draft" => Some(Key::Draft),
+        "stamp" => Some(Key::Stamp),
+        _ => None,
     }
 }
 
 // The layers of a stack, down to its base, of which the first word is read already.
-fn layers(top: &[u8], words: &mut Words) -> Option<Layers> {
-    if top == b"sheet".as_slice() {
-        return Some(Layers::Bare);
+fn layers(top: &str, words: &mut Words) -> Option<Layers> {
+    match top {
+        "sheet" => Some(Layers::Bare),
+        "quota" => {
+            let number = number(words, u8::MAX.into())?;
+            match words.next()? {
+                "sheet" => Some(Layers::Quota(number)),
+                "shelf" => (words.next()? == "sheet").then_some(Layers::QuotaOverCache(number)),
+                _ => None,
+            }
+        }
+        "shelf" => match words.next()? {
+            "sheet" => Some(Layers::Cache),
+            "quota" => {
+                let number = number(words, u8::MAX.into())?;
+                (words.next()? == "sheet").then_some(Layers::CacheOverQuota(number))
+            }
+            _ => None,
+        },
+        _ => None,
     }
-    if top == b"quota".as_slice() {
-        let number = number8(words)?;
-        let next = words.next()?;
-        if next == b"sheet".as_slice() {
-            return Some(Layers::Quota(number));
-        }
-        if next == b"shelf".as_slice() {
-            expect_base(words)?;
-            return Some(Layers::QuotaOverCache(number));
-        }
-        return None;
-    }
-    if top == b"shelf".as_slice() {
-        let next = words.next()?;
-        if next == b"sheet".as_slice() {
-            return Some(Layers::Cache);
-        }
-        if next == b"quota".as_slice() {
-            let number = number8(words)?;
-            expect_base(words)?;
-            return Some(Layers::CacheOverQuota(number));
-        }
-    }
-    None
 }
 
-fn start(top: &[u8], words: &mut Words) -> Option<Command> {
+fn start(top: &str, words: &mut Words) -> Option<Command> {
     let layers = layers(top, words)?;
-    let bytes = number(words, 1_000_000_000)?;
-    Some(Command::Start(layers, bytes, number16(words)?))
+    let bytes = number(words, BYTES_MAX)?;
+    let charge = number(words, u16::MAX.into())?;
+    Some(Command::Start {
+        layers,
+        bytes,
+        charge,
+    })
 }
 
-fn call(word: &[u8], words: &mut Words) -> Option<Call> {
-    if word == b"count".as_slice() {
-        return Some(Call::Count);
-    }
-    if word == b"used".as_slice() {
-        return Some(Call::IsUsed(key(words)?));
-    }
-    if word == b"read".as_slice() {
-        return Some(Call::Read(key(words)?));
-    }
-    if word == b"rename".as_slice() {
-        let from = key(words)?;
-        return Some(Call::Rename(from, key(words)?));
-    }
-    if word == b"remove".as_slice() {
-        return Some(Call::Remove(key(words)?));
-    }
-    if word == b"settle".as_slice() {
-        return Some(Call::Settle);
-    }
-    None
+fn restart(words: &mut Words) -> Option<Command> {
+    let charge = number(words, u16::MAX.into())?;
+    let pick = number(words, u16::MAX.into())?;
+    Some(Command::Restart { charge, pick })
 }
 
-fn whole_line(word: &[u8], words: &mut Words) -> Option<Command> {
-    if word == b"restart".as_slice() {
-        let charge = number16(words)?;
-        return Some(Command::Restart(charge, number16(words)?));
+fn call(word: &str, words: &mut Words) -> Option<Call> {
+    match word {
+        "count" => Some(Call::Count),
+        "used" => Some(Call::IsUsed(key(words)?)),
+        "read" => Some(Call::Read(key(words)?)),
+        "store" => Some(Call::Store(key(words)?)),
+        "rename" => {
+            let from = key(words)?;
+            Some(Call::Rename(from, key(words)?))
+        }
+        "remove" => Some(Call::Remove(key(words)?)),
+        "settle" => Some(Call::Settle),
+        _ => None,
     }
-    if let Some(call) = call(word, words) {
-        return Some(Command::Call(call));
-    }
-    start(word, words)
 }
 
 /// The command of a line. Behind a store the words have its text; any other command ends with its line.
 pub fn parse(words: &mut Words) -> Option<Command> {
     let word = words.next()?;
-    if word == b"store".as_slice() {
-        return Some(Command::Call(Call::Store(key(words)?)));
-    }
-    let command = whole_line(word, words)?;
-    if words.text().is_none() {
-        Some(command)
-    } else {
-        None
-    }
+    let command = match word {
+        "sheet" | "quota" | "shelf" => start(word, words)?,
+        "restart" => restart(words)?,
+        _ => Command::Call(call(word, words)?),
+    };
+    (word == "store" || words.text().is_none()).then_some(command)
 }

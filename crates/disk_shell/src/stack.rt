@@ -1,7 +1,5 @@
-ghost use Rattle.std.specs.Prelude.{◌≡◌, IfOk};
-ghost use Rattle.disk.specs.DiskState.{DiskState};
-ghost use Rattle.disk.specs.Perform.{reply, after, filled};
-ghost use Rattle.disk.specs.Restart.{Restarted};
+ghost use Rattle.std.specs.Prelude.{IfOk};
+ghost use Rattle.disk.specs.Steps.{Replies, Restarts};
 ghost use Rattle.disk_shell.specs.Stacks.{Models, start};
 
 use disk::{Call, Reply, cut_power, perform};
@@ -20,7 +18,8 @@ pub enum Layers {
     CacheOverQuota(u8),
 }
 
-/// A two-copy disk under some layers.
+/// A two-copy disk under some layers. Each of its two calls matches on them: they are five types, whose one common
+/// form, a trait object, no function may hand out, and an `impl Disk for Stack` matches in each of its eight methods.
 #[derive(Drop)]
 pub enum Stack {
     Bare(TwoCopy),
@@ -52,7 +51,7 @@ impl Stack {
 
     /// Makes the call on the top of the stack.
     pub fn call(&mut self, call: &Call, bytes: &[u8], into: &mut [u8; BLOCK_MAX]) -> Reply
-        ensures { (m : DiskState) → Models self.old m → (result ≡ reply m call.now bytes.now) × ((into.new ≡ filled m call.now into.old) × Models self.new (after m call.now bytes.now)) }
+        ensures { Replies Models self.old self.new call.now bytes.now result into.old into.new }
     {
         match self {
             Stack::Bare(d) => perform(d, call, bytes, into),
@@ -65,7 +64,7 @@ impl Stack {
 
     /// Cuts the power and restarts the stack.
     pub fn restart(&mut self, charge: u16, pick: u16)
-        ensures { (m : DiskState) → Models self.old m → ((n : DiskState) × (Models self.new n × Restarted m charge n)) }
+        ensures { Restarts Models self.old self.new charge }
     {
         match self {
             Stack::Bare(d) => cut_power(d, charge, pick),

@@ -3,7 +3,7 @@ ghost use Rattle.disk.specs.Keys.{key_of};
 ghost use Rattle.disk.specs.DiskState.{DiskState};
 ghost use Rattle.disk.specs.Calls.{dark, Within, store as store_step, rename as rename_step, remove as remove_step, settle as settle_step};
 ghost use Rattle.disk.specs.Steps.{Performs, Reads};
-ghost use Rattle.layers.specs.Holds.{is_for, held, forgotten, hold_of, Agree, Caches};
+ghost use Rattle.layers.specs.Holds.{is_for, held, forgotten, hold_of, Caches};
 ghost use Rattle.layers.specs.Recent.{Recent, to_front};
 
 use crate::hold::Hold;
@@ -14,6 +14,15 @@ use names::limits::BLOCK_MAX;
 const HOLDS: usize = 4;
 
 impl Hold {
+    fn empty() -> Hold
+        ensures { result.key ≡ None }
+    {
+        Hold {
+            key: None,
+            block: Block::empty(),
+        }
+    }
+
     fn is_for(&self, key: &Key) -> bool
         ensures { result ≡ is_for self.now (key_of key.now) }
     {
@@ -35,17 +44,6 @@ impl Hold {
             self.key = None;
         }
     }
-}
-
-// Holds of which none is for a key.
-fn empty_holds() -> [Hold; HOLDS]
-    ensures { (m : DiskState) → Agree m result }
-{
-    let empty = Hold {
-        key: None,
-        block: Block::empty(),
-    };
-    [empty; HOLDS]
 }
 
 // The first hold for the key.
@@ -85,7 +83,7 @@ impl<D: Disk> ReadCache<D> {
     {
         ReadCache {
             below,
-            holds: empty_holds(),
+            holds: [Hold::empty(); HOLDS],
         }
     }
 
@@ -127,6 +125,7 @@ impl<D: Disk> Disk for ReadCache<D> {
         let Some(n) = self.below.read(key, into)? else {
             return Ok(None);
         };
+        // No read gives more than a block holds.
         let Some(block) = Block::new(&into[..n]) else {
             return Ok(Some(n));
         };
@@ -169,7 +168,8 @@ impl<D: Disk> Disk for ReadCache<D> {
     }
 
     fn restart(&mut self, charge: u16, pick: u16) {
-        self.holds = empty_holds();
+        let empty = [Hold::empty(); HOLDS];
+        self.holds = empty;
         self.below.restart(charge, pick);
     }
 }

@@ -115,6 +115,7 @@ impl Disk for TwoCopy {
         let Some(i) = self.find(key) else {
             return Ok(None);
         };
+        // No `map`: tried, and the proof knows nothing of a buffer that its closure writes.
         match &self.places[i].present {
             None => Ok(None),
             Some(block) => Ok(Some(block.copy_into(into))),
