@@ -21,11 +21,11 @@ pub enum Status {
 fn has_script(files: &Files, name: &Name) -> bool
     ensures { result ≡ any_laid (laid files.now) (all_candidates (spelled name.now)) }
 {
-    Candidates::new(*name).any(|candidate| -> bool
-        ensures { result ≡ is_some (laid files.entry.now (spelled candidate.script)) }
-    {
-        files.get(&candidate.script).is_some()
-    })
+    Candidates::new(*name).any(
+        |candidate| -> bool
+            ensures { result ≡ is_some (laid files.entry.now (spelled candidate.script)) }
+        { files.get(&candidate.script).is_some() },
+    )
 }
 
 impl Status {

@@ -1,6 +1,4 @@
-use Rattle.std.proofs.Common.{ap, ◌∙◌}
-use Rattle.std.specs.List.{list_any}
-use Rattle.std.specs.Str.{bytes_eq}
+use Rattle.std.proofs.Common.{◌∙◌}
 use Rattle.names.specs.Spelled.{spelled}
 use Rattle.clean.proofs.Chains.{any_among}
 use Rattle.clean.proofs.chain.is_among.Goals as goal
