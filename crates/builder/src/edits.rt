@@ -1,4 +1,4 @@
-ghost use Rattle.commit.specs.Replies.{Returns};
+ghost use Rattle.disk.specs.Steps.{Performs};
 ghost use Rattle.builder.specs.Calls.{lay as lay_step, take as take_step};
 
 use commit::{Stamped, commit, draw};
@@ -8,7 +8,7 @@ use names::Name;
 
 /// Lays the bytes under the name, with a stamp of their own.
 pub fn lay<D: Disk>(disk: &mut D, name: &[u8], bytes: &[u8]) -> Result<(), Cause>
-    ensures { Returns D.Disk.models disk.old disk.new result (λ m. lay_step m name.now bytes.now) }
+    ensures { Performs D.Disk.models disk.old disk.new result (λ m. lay_step m name.now bytes.now) }
 {
     let name = Name::new(name).ok_or(Cause::Misnamed)?;
     let mut file = Stamped::new(bytes).ok_or(Cause::Oversize)?;
@@ -19,7 +19,7 @@ pub fn lay<D: Disk>(disk: &mut D, name: &[u8], bytes: &[u8]) -> Result<(), Cause
 
 /// Takes the file away that is laid under the name.
 pub fn take<D: Disk>(disk: &mut D, name: &[u8]) -> Result<(), Cause>
-    ensures { Returns D.Disk.models disk.old disk.new result (λ m. take_step m name.now) }
+    ensures { Performs D.Disk.models disk.old disk.new result (λ m. take_step m name.now) }
 {
     let name = Name::new(name).ok_or(Cause::Misnamed)?;
     disk.remove(&Key::Laid(name)).map_err(|why| match why {

@@ -1,5 +1,5 @@
 -- What a call of the builder answers, with the state of the disk after it: refusals in their order, and the disk's own.
-use Rattle.std.specs.Prelude.{◌≡◌, Bool, cond, Ok, Err, Result}
+use Rattle.std.specs.Prelude.{Bool, cond, Ok, Err, Result}
 use Rattle.faults.specs.declared.cause.Cause.{Cause}
 use Rattle.faults.specs.declared.cause.Cause.TheVariants.{Disk}
 use Rattle.disk.specs.DiskState.{DiskState}
@@ -7,10 +7,6 @@ use Rattle.disk.specs.Calls.{Answer}
 
 abbrev pub Reply : Type 0 → Type 0
 Reply A = Result A Cause × DiskState
-
--- the reply, and a state that describes the disk after, as the step says of any state that described it before
-abbrev pub Returns : {S : Type 0} → (S → DiskState → Type 0) → S → S → {A : Type 0} → Result A Cause → (DiskState → Reply A) → Type 0
-Returns models old new r step = (m : DiskState) → models old m → (r ≡ (step m).0) × models new (step m).1
 
 -- refused for that reason, and nothing changed, if the test holds; otherwise what comes next
 abbrev pub refuse : {A : Type 0} → Bool → Cause → DiskState → Reply A → Reply A

@@ -14,6 +14,7 @@ pub(crate) fn shown<D: Disk>(
     ensures { ShowsAt D.Disk.models disk.old disk.new (key_of key.now) result }
 {
     let mut cells = [0; BLOCK_MAX];
+    // Nothing shown is an `Ok`, which `?` does not hand out.
     let Some(len) = disk.read(key, &mut cells)? else {
         return Ok(None);
     };

@@ -1,4 +1,4 @@
-ghost use Rattle.commit.specs.Replies.{Returns};
+ghost use Rattle.disk.specs.Steps.{Performs};
 ghost use Rattle.commit.specs.Draws.{last_stamp, draw as draw_step};
 
 use crate::draft::commit;
@@ -12,8 +12,9 @@ pub const STAMP_SIZE: usize = 4;
 
 /// The last stamp drawn, 0 where there is none.
 fn read_last<D: Disk>(disk: &mut D) -> Result<u32, Cause>
-    ensures { Returns D.Disk.models disk.old disk.new result (λ m. (last_stamp m, m)) }
+    ensures { Performs D.Disk.models disk.old disk.new result (λ m. (last_stamp m, m)) }
 {
+    // Nothing shown is an `Ok`, which `?` does not hand out.
     let Some(bytes) = shown(disk, &Key::Stamp)? else {
         return Ok(0);
     };
@@ -23,7 +24,7 @@ fn read_last<D: Disk>(disk: &mut D) -> Result<u32, Cause>
 
 /// Draws a stamp: the number behind the last, which is committed before it is used.
 pub fn draw<D: Disk>(disk: &mut D) -> Result<u32, Cause>
-    ensures { Returns D.Disk.models disk.old disk.new result draw_step }
+    ensures { Performs D.Disk.models disk.old disk.new result draw_step }
 {
     let last = read_last(disk)?;
     if last >= STAMP_MAX {

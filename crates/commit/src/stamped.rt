@@ -88,9 +88,11 @@ impl Stamped {
     }
 
     /// The stamp and the bytes that the key shows; `None` where it shows nothing.
+    // `Performs` would fix the whole answer; of this one's `Stamped` only the bytes are promised.
     pub fn read<D: Disk>(disk: &mut D, key: &Key) -> Result<Option<Stamped>, ReadError>
         ensures { (m : DiskState) → D.Disk.models disk.old m → Reads result m (key_of key.now) × D.Disk.models disk.new m }
     {
+        // Nothing shown is an `Ok`, which `?` does not hand out.
         let Some(bytes) = shown(disk, key)? else {
             return Ok(None);
         };

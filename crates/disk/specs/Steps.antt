@@ -6,12 +6,12 @@ use Rattle.disk.specs.declared.call.Reply.{Reply}
 use Rattle.disk.specs.declared.refusal.Refusal.{Refusal}
 use Rattle.disk.specs.Keys.{KeyId}
 use Rattle.disk.specs.DiskState.{DiskState}
-use Rattle.disk.specs.Calls.{Answer, read, read_into}
+use Rattle.disk.specs.Calls.{read, read_into}
 use Rattle.disk.specs.Restart.{Restarted}
 use Rattle.disk.specs.Perform.{reply, after, filled}
 
 -- the answer, and a state that describes the disk after, as the step says of any state that described it before
-abbrev pub Performs : {S : Type 0} → (S → DiskState → Type 0) → S → S → Answer → (DiskState → Answer × DiskState) → Type 0
+abbrev pub Performs : {S R : Type 0} → (S → DiskState → Type 0) → S → S → R → (DiskState → R × DiskState) → Type 0
 Performs models old new answer step = (m : DiskState) → models old m → (answer ≡ (step m).0) × models new (step m).1
 
 -- the answer to a read of the key, and what the buffer holds after it

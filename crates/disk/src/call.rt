@@ -14,6 +14,7 @@ use crate::refusal::{Count, Refusal};
 use names::limits::BLOCK_MAX;
 
 /// A call of a disk, but for restart. What a store writes is lent beside it.
+// A value and no closure: a law speaks of lists of calls, and a line of the shell is one.
 #[derive(Clone, Copy, PartialEq, Eq)]
 pub enum Call {
     Count,
@@ -26,6 +27,7 @@ pub enum Call {
 }
 
 /// What a disk answers to a call.
+// The calls answer in four types, and a law speaks of the replies to a list of calls, so they are one type here.
 #[derive(Clone, Copy, PartialEq, Eq, Debug)]
 pub enum Reply {
     Counted(Count),
@@ -34,7 +36,7 @@ pub enum Reply {
     Changed(Result<(), Refusal>),
 }
 
-// What `perform` does.
+// What `perform` does: apart from it, since the law of `perform` follows from this clause alone, and not arm by arm.
 fn dispatch<D: Disk>(disk: &mut D, call: &Call, bytes: &[u8], into: &mut [u8; BLOCK_MAX]) -> Reply
     ensures { Replies D.Disk.models disk.old disk.new call.now bytes.now result into.old into.new }
 {
@@ -49,6 +51,7 @@ fn dispatch<D: Disk>(disk: &mut D, call: &Call, bytes: &[u8], into: &mut [u8; BL
     }
 }
 
+// What follows says more than what a call does, each in its own way: laws of the states behind a call, a cut, and two disks.
 /// Makes the call. A store takes the bytes, and a read alone writes into the buffer.
 pub fn perform<D: Disk>(
     disk: &mut D,

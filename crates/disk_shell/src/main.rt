@@ -13,6 +13,7 @@ use std::io;
 use std::str::from_utf8;
 use words::Words;
 
+// Not a Display of `Reply`: a read prints the bytes of the buffer, which the reply does not hold.
 fn print_bytes(rt: &HostRuntime, bytes: &[u8]) -> io::Result<()> {
     let n = bytes.len();
     match from_utf8(bytes) {

@@ -31,7 +31,7 @@ pub enum Cause {
 }
 
 impl Cause {
-    /// The number of the refusal. No call passes on another word of the disk than dark and full; those have 0.
+    /// The number by which a refusal is printed. A `From` would not say which number it gives. No call passes on another word of the disk than dark and full; those have 0.
     pub fn number(self) -> u8
         ensures { result ≡ number self }
     {

@@ -25,6 +25,7 @@ pub enum ScriptFault {
 }
 
 impl ScriptFault {
+    /// The number by which a refusal is printed. A `From` would not say which number it gives.
     pub fn number(self) -> u8
         ensures { result ≡ number self }
     {

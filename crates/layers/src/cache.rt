@@ -46,7 +46,7 @@ impl Hold {
     }
 }
 
-// The first hold for the key.
+// The first hold for the key. A search and no map: no call takes memory, and the holds stand in the order of reading.
 fn seek(holds: &[Hold], key: &Key) -> Option<usize>
     ensures { result ≡ hold_of holds.now (key_of key.now) }
 {
@@ -122,6 +122,7 @@ impl<D: Disk> Disk for ReadCache<D> {
             bring_front(&mut self.holds, i);
             return Ok(Some(self.holds[0].block.copy_into(into)));
         }
+        // Nothing shown is an `Ok`, which `?` does not hand out.
         let Some(n) = self.below.read(key, into)? else {
             return Ok(None);
         };

@@ -40,7 +40,7 @@ impl<D: Disk> Quota<D> {
     }
 }
 
-// Whether the key shows something, on a disk with charge left.
+// Whether the key shows something, on a disk with charge left. `Performs` would say what it answers to a dark disk too.
 fn shows<D: Disk>(disk: &mut D, key: &Key) -> bool
     ensures { (m : DiskState) → D.Disk.models disk.old m → (dark m ≡ false → result ≡ is_some (shown m (key_of key.now))) × D.Disk.models disk.new m }
 {

@@ -21,6 +21,7 @@ fn main(rt: HostRuntime) -> io::Result<()> {
     let mut files = Files::new(rt.alloc());
     let mut lines = LineBuffer::new();
     let mut input = rt.stdin();
+    // A count that no input reaches: a loop that waits for its input has no end of its own.
     for _ in 0..u64::MAX {
         let mut chunk = [0u8; 512];
         let n = input.read(&mut chunk)?;

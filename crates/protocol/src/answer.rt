@@ -46,6 +46,7 @@ fn refusal_text(heap: Global, fault: &Fault) -> Result<Vec<u8>, AllocError>
     Ok(text.into_bytes())
 }
 
+// Bytes and no Display: a page need not be text.
 impl Answer<'_> {
     // The answer without the byte 10 that ends its line.
     fn text(&self, heap: Global) -> Result<Vec<u8>, AllocError>

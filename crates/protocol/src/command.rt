@@ -87,7 +87,8 @@ fn blank_at(bytes: &[u8]) -> Option<usize>
     bytes.iter().position(|b| *b == b' ')
 }
 
-// What stands before the first blank, and all that stands behind it.
+// What stands before the first blank, and all that stands behind it. Not `cut` of `script`, which has no `None`: what the
+// two share is std's `position`.
 #[tactic(auto, using(crate::proofs::Divides::here, crate::proofs::Divides::nowhere))]
 fn divide(bytes: &[u8]) -> Option<(&[u8], &[u8])>
     ensures { option_map parts result ≡ divided bytes.now }

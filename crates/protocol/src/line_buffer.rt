@@ -74,6 +74,7 @@ impl LineBuffer {
     }
 
     /// The input goes on with this byte. Whether it completes a line, which `line` then gives.
+    // A bool: an over-long line is an answer of `line`, so a line handed out here were an Option of an Option.
     pub fn push(&mut self, byte: u8) -> bool
         ensures ends { result ≡ (byte == newline) }
         ensures lines { (bs : Bytes) → to_come self.old (byte ∷ bs) ≡ (if result then held self.new ∷ to_come self.new bs else to_come self.new bs) }

@@ -6,5 +6,6 @@ pub struct Place {
     pub key: Key,
     pub settled: Option<Block>,
     pub present: Option<Block>,
+    // Says nothing of whether a content is there: each of the four ways of the two is a state of its own.
     pub firm: bool,
 }

@@ -9,6 +9,7 @@ pub mod calls;
 pub mod search;
 
 /// A disk in memory that keeps two contents of each key, the settled one and the present one.
+// Places and no map: no call but `new` takes memory, and the used places are the bits of one number.
 #[derive(Drop)]
 pub struct TwoCopy {
     places: Vec<Place>,

@@ -112,6 +112,7 @@ impl Disk for TwoCopy {
         if self.charge == 0 {
             return Err(Refusal::Dark);
         }
+        // A key without a place shows nothing, which is an `Ok`, and `?` hands none out.
         let Some(i) = self.find(key) else {
             return Ok(None);
         };

@@ -43,7 +43,7 @@ pub fn refresh_all(places: &mut [Place], old: bool)
     }
 }
 
-// The used places, as a number: bit i is for place i.
+// The used places, as a number: bit i is for place i, so the index is what is wanted.
 pub fn marks(places: &[Place]) -> u64
     requires { length places.now ≤ keys_max }
     ensures { result ≡ mask places.now }
