@@ -5,8 +5,8 @@ use Rattle.std.proofs.lemmas.Bool.{leb-true, le-leb, lt-leb}
 use Rattle.names.specs.Limits.{page_max, entries_max, depth_max}
 use Rattle.names.specs.Names.{Bytes, is_name}
 use Rattle.faults.specs.Trails.{Steps}
-use Rattle.faults.specs.declared.fault.ScriptFault.{ScriptFault}
-use Rattle.faults.specs.declared.fault.ScriptFault.TheVariants.{PageTooLong, NotAName}
+use Rattle.faults.specs.declared.script_fault.ScriptFault.{ScriptFault}
+use Rattle.faults.specs.declared.script_fault.ScriptFault.TheVariants.{PageTooLong, NotAName}
 use Rattle.script.specs.Lines.{lines}
 use Rattle.script.specs.Words.{spelled_by, rest_of}
 use Rattle.script.specs.Tree.{Tree, done, stop, ask, Offer, wanted, refused, Entered, Entries, entered, with_entry, full, unless_full, Does, pass, skip, add, fail, query, adding, copying, known, asking, named, worded, does, lacking, offer, mode_after, goes, run}

@@ -6,8 +6,8 @@ use Rattle.names.specs.Limits.{depth_max}
 use Rattle.names.specs.Names.{Bytes, is_name}
 use Rattle.faults.specs.Causes.{extended}
 use Rattle.faults.specs.Trails.{Steps}
-use Rattle.faults.specs.declared.fault.ScriptFault.{ScriptFault}
-use Rattle.faults.specs.declared.fault.ScriptFault.TheVariants.{Cycle, TooDeep, TooManyEntries}
+use Rattle.faults.specs.declared.script_fault.ScriptFault.{ScriptFault}
+use Rattle.faults.specs.declared.script_fault.ScriptFault.TheVariants.{Cycle, TooDeep, TooManyEntries}
 use Rattle.script.specs.Lines.{lines}
 use Rattle.script.specs.Tree.{Tree, done, stop, ask, Offer, wanted, refused, Entries, entered, with_entry, full, unless_full, wanted_unless, offer, lacking, mode_after, query, run}
 use Rattle.script.specs.View.{Point, onward, tree_of, after_doing}
@@ -26,7 +26,7 @@ use Rattle.clean.specs.Told.{told}
 use Rattle.clean.specs.declared.status.Status as memory
 use Rattle.clean.specs.declared.status.Status.TheVariants.{Absent as NotHere, Source as FromSource, Target as AsTarget}
 use Rattle.faults.specs.declared.cause.Cause.{Cause}
-use Rattle.faults.specs.declared.failure.Fault.{Fault}
+use Rattle.faults.specs.declared.fault.Fault.{Fault}
 use Rattle.faults.specs.declared.cause.Cause.TheVariants.{Misnamed, Script as InScript}
 
 script-status : (laid : Files) (n : Bytes) → candidates n ≡ [] → status laid n ≡ plain (laid n)

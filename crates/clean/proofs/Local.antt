@@ -1,7 +1,7 @@
 -- An evaluation depends only on the names that it asks about.
 use Rattle.std.proofs.Common.{◌≡◌, ℕ, zero, suc, Bool, true, false, cond, List, [], ◌∷◌, ◌++◌, sym, refl, ap, ◌∙◌, subst, true≢false}
 use Rattle.names.specs.Names.{Bytes}
-use Rattle.faults.specs.declared.fault.ScriptFault.TheVariants.{Cycle}
+use Rattle.faults.specs.declared.script_fault.ScriptFault.TheVariants.{Cycle}
 use Rattle.script.specs.Tree.{Tree, done, stop, ask, Offer, wanted, refused}
 use Rattle.script.specs.Search.{whole_run}
 use Rattle.clean.specs.Files.{Files}

@@ -3,7 +3,7 @@ use Rattle.std.specs.Prelude.{[], ◌∷◌, ◌≡◌, ◌-◌, List, length, O
 use Rattle.names.specs.Limits.{depth_max}
 use Rattle.names.specs.Names.{Bytes}
 use Rattle.faults.specs.Trails.{steps}
-use Rattle.faults.specs.declared.fault.ScriptFault.{ScriptFault}
+use Rattle.faults.specs.declared.script_fault.ScriptFault.{ScriptFault}
 use Rattle.script.specs.Tree.{Tree}
 use Rattle.script.specs.Pages.{content}
 use Rattle.script.specs.Made.{entries}
@@ -14,8 +14,8 @@ use Rattle.clean.specs.Status.{status}
 use Rattle.clean.specs.Evaluate.{Outcome, follow, yields, evaluate, lacking_in, Answer, made, failed, as_answer}
 use Rattle.clean.specs.Opening as spec
 use Rattle.faults.specs.declared.cause.Cause.TheVariants.{Script}
-use Rattle.faults.specs.declared.failure.Fault.{Fault}
-use Rattle.faults.specs.declared.failure.Failed.{Failed}
+use Rattle.faults.specs.declared.fault.Fault.{Fault}
+use Rattle.faults.specs.declared.fault.Failed.{Failed}
 use Rattle.clean.specs.declared.evaluate.Opening.{Opening}
 
 -- why there is no page, and the open targets that the fault passed through

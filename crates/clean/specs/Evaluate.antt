@@ -4,8 +4,8 @@ use Rattle.std.specs.Str.{bytes_eq}
 use Rattle.names.specs.Limits.{depth_max}
 use Rattle.names.specs.Names.{Bytes, is_name}
 use Rattle.faults.specs.Trails.{Steps}
-use Rattle.faults.specs.declared.fault.ScriptFault.{ScriptFault}
-use Rattle.faults.specs.declared.fault.ScriptFault.TheVariants.{Absent as NotThere, Cycle, TooDeep}
+use Rattle.faults.specs.declared.script_fault.ScriptFault.{ScriptFault}
+use Rattle.faults.specs.declared.script_fault.ScriptFault.TheVariants.{Absent as NotThere, Cycle, TooDeep}
 use Rattle.script.specs.Tree.{Tree, done, stop, ask, Offer, wanted, refused}
 use Rattle.script.specs.Search.{whole_run}
 use Rattle.clean.specs.Files.{Files}

@@ -3,7 +3,7 @@ use Rattle.std.specs.Prelude.{◌≡◌, ℕ, ◌+◌, ◌≤◌, Bool, true, Li
 use Rattle.names.specs.Limits.{page_max, entries_max, depth_max}
 use Rattle.names.specs.Names.{Bytes, is_name}
 use Rattle.faults.specs.Trails.{Steps}
-use Rattle.faults.specs.declared.fault.ScriptFault.{ScriptFault}
+use Rattle.faults.specs.declared.script_fault.ScriptFault.{ScriptFault}
 use Rattle.script.specs.Words.{spelled_by, rest_of}
 use Rattle.script.specs.Tree.{Entries, entered, run}
 use Rattle.script.specs.declared.word.Word.TheVariants.{IfHas}

@@ -1,8 +1,8 @@
 -- The search for a target's script among laid files: the run that it opens, or why none begins.
 use Rattle.std.specs.Prelude.{cond, List, [], ◌∷◌, is_some, Some, None, Option}
 use Rattle.names.specs.Names.{Bytes}
-use Rattle.faults.specs.declared.fault.ScriptFault.{ScriptFault}
-use Rattle.faults.specs.declared.fault.ScriptFault.TheVariants.{Absent as NotThere, TooManyEntries}
+use Rattle.faults.specs.declared.script_fault.ScriptFault.{ScriptFault}
+use Rattle.faults.specs.declared.script_fault.ScriptFault.TheVariants.{Absent as NotThere, TooManyEntries}
 use Rattle.script.specs.Tree.{Entries, entered, with_entry, full}
 use Rattle.script.specs.Candidates.{Candidate}
 use Rattle.script.specs.declared.entry.Kind.TheVariants.{Script, Absent}

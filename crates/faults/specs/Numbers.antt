@@ -1,7 +1,7 @@
 -- The number of each fault of a script.
 use Rattle.std.specs.Prelude.{ℕ}
-use Rattle.faults.specs.declared.fault.ScriptFault.{ScriptFault}
-use Rattle.faults.specs.declared.fault.ScriptFault.TheVariants.{UnknownWord, NotAName, Absent, Present, NotNeeded, Cycle, TooDeep, PageTooLong, TooManyEntries}
+use Rattle.faults.specs.declared.script_fault.ScriptFault.{ScriptFault}
+use Rattle.faults.specs.declared.script_fault.ScriptFault.TheVariants.{UnknownWord, NotAName, Absent, Present, NotNeeded, Cycle, TooDeep, PageTooLong, TooManyEntries}
 
 abbrev pub number : ScriptFault → ℕ
 number UnknownWord = 11

@@ -2,7 +2,7 @@ ghost use Rattle.std.specs.Prelude.{◌≡◌};
 ghost use Rattle.faults.specs.Causes.{number};
 ghost use Rattle.faults.specs.declared.cause.Cause.TheVariants.{Disk as FromDisk, Script as FromScript};
 
-use crate::fault::ScriptFault;
+use crate::script_fault::ScriptFault;
 use disk::Refusal;
 
 /// Why a call is refused.

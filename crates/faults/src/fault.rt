@@ -1,34 +1,54 @@
-ghost use Rattle.std.specs.Prelude.{◌≡◌};
-ghost use Rattle.faults.specs.Numbers.{number};
+ghost use Rattle.std.specs.Prelude.{◌≡◌, [], ◌∷◌};
+ghost use Rattle.names.specs.Spelled.{spelled};
+ghost use Rattle.faults.specs.Trails.{steps};
+ghost use Rattle.faults.specs.Causes.{extended};
+ghost use Rattle.faults.specs.declared.cause.Cause.TheVariants.{Script as FromScript};
 
-/// Why a script does not make its page, by its number.
-#[derive(Clone, Copy, PartialEq, Eq, Debug)]
-pub enum ScriptFault {
-    /// A line begins with no word of scripts.
-    UnknownWord = 11,
-    /// The rest of a line is to be a name, and is none.
-    NotAName = 12,
-    /// `need` of an absent name.
-    Absent = 13,
-    /// `ifcreate` of a name that is there.
-    Present = 14,
-    /// `copy` of a name that the run has not needed.
-    NotNeeded = 15,
-    /// The needed target is open already.
-    Cycle = 16,
-    /// As many targets are open as may be.
-    TooDeep = 17,
-    /// The page would pass its limit.
-    PageTooLong = 18,
-    /// The run would make one entry more than a record holds.
-    TooManyEntries = 19,
+use crate::cause::Cause;
+use crate::frame::Frame;
+use crate::script_fault::ScriptFault;
+use crate::trail::Trail;
+use names::Name;
+
+/// Why a call is refused, and the open targets that the fault passed through, innermost first. Only a script's faults
+/// have such a trail.
+#[derive(Clone, Copy)]
+pub struct Fault {
+    pub cause: Cause,
+    pub trail: Trail,
 }
 
-impl ScriptFault {
-    /// The number by which a refusal is printed. A `From` would not say which number it gives.
-    pub fn number(self) -> u8
-        ensures { result ≡ number self }
+/// Says that a fault stands in the place that the caller lent for it.
+#[derive(Clone, Copy, PartialEq, Eq, Debug)]
+pub struct Failed;
+
+impl Fault {
+    /// A fault with no trail.
+    pub fn new(cause: Cause) -> Fault
+        ensures { (result.cause ≡ cause) × (steps result.trail ≡ []) }
     {
-        self as u8
+        Fault {
+            cause,
+            trail: Trail::new(),
+        }
+    }
+
+    /// The fault passes through a line of an open target.
+    pub fn pass(&mut self, target: Name, line: u16)
+        ensures { (self.new.cause ≡ self.old.cause)
+            × (steps self.new.trail ≡ extended self.old.cause (steps self.old.trail) (spelled target) line) }
+    {
+        if let Cause::Script(_) = self.cause {
+            self.trail.push(Frame { target, line });
+        }
+    }
+
+    /// A script is at fault, at a line of an open target.
+    pub fn at(fault: ScriptFault, target: Name, line: u16) -> Fault
+        ensures { (result.cause ≡ FromScript fault) × (steps result.trail ≡ (spelled target, line) ∷ []) }
+    {
+        let mut whole = Fault::new(fault.into());
+        whole.pass(target, line);
+        whole
     }
 }

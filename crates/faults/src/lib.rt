@@ -1,13 +1,13 @@
 #![tactic(auto)]
 
 mod cause;
-mod failure;
 pub mod fault;
 mod frame;
+mod script_fault;
 pub mod trail;
 
 pub use cause::Cause;
-pub use failure::{Failed, Fault};
-pub use fault::ScriptFault;
+pub use fault::{Failed, Fault};
 pub use frame::Frame;
+pub use script_fault::ScriptFault;
 pub use trail::Trail;

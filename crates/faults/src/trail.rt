@@ -1,4 +1,4 @@
-ghost use Rattle.std.specs.Prelude.{◌≡◌, [], ◌∷◌, ◌++◌, map, take};
+ghost use Rattle.std.specs.Prelude.{◌≡◌, ◌≤◌, length, [], ◌∷◌, ◌++◌, map, take};
 ghost use Rattle.names.specs.Limits.{depth_max};
 
 use crate::frame::Frame;
@@ -10,6 +10,7 @@ use names::limits::DEPTH_MAX;
 #[derive(Clone, Copy)]
 pub struct Trail {
     frames: InlineVec<Frame, DEPTH_MAX>,
+    ghost short: { length frames.items ≤ depth_max },
 }
 
 impl Trail {
@@ -37,7 +38,8 @@ impl Trail {
 
     /// The frames, innermost first.
     pub fn frames(&self) -> &[Frame]
-        ensures { map step result.now ≡ steps self.now }
+        ensures value { map step result.now ≡ steps self.now }
+        ensures short { length result.now ≤ depth_max }
     {
         self.frames.as_slice()
     }

@@ -2,7 +2,7 @@
 use Rattle.std.specs.Prelude.{List, refl}
 use Rattle.std.specs.Coded.{Coded, code_by, coded×, coded_list}
 
--- the items, in order, and what lies in the free places, of which no clause says anything
+-- the items, in order, and what lies in the free places, of which a clause says only that a refusal leaves it
 pub record Items (T : Type 0) : Type 0 where
   pub items : List T
   pub spare : List T

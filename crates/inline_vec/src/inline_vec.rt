@@ -1,12 +1,13 @@
-ghost use Rattle.std.specs.Prelude.{◌≡◌, ◌+◌, ◌≤◌, ◌<◌, [], ◌∷◌, ◌++◌, length, take, drop, is_ok, OnOk, OnErr, MatchOption, nat_eq, nat_le, nat_lt};
+ghost use Rattle.std.specs.Prelude.{◌≡◌, ◌+◌, ◌≤◌, ◌<◌, [], ◌∷◌, ◌++◌, length, take, drop, is_ok, IfSome, OnOk, OnErr, MatchOption, nat_eq, nat_le, nat_lt};
 
 use std::marker::Model;
 
-/// There is no room for what was to be added.
+/// There is no room for what was to be put there.
 #[derive(Clone, Copy, PartialEq, Eq, Debug)]
 pub struct Full;
 
 /// A vector of at most `CAP` items, which lie in the value itself. It never allocates, and is copied as an array is.
+// The toolchain's `ArrayVec` is not copied as a value, and its `clone` may fail.
 #[derive(Clone, Copy)]
 pub struct InlineVec<T, const CAP: usize> {
     cells: [T; CAP],
@@ -47,7 +48,8 @@ impl<T: Copy, const CAP: usize> InlineVec<T, CAP> {
 
     /// The items, if there is room for them.
     pub fn from_slice(filler: T, items: &[T]) -> Option<InlineVec<T, CAP>>
-        ensures { MatchOption result (CAP < length items.now) (λ v. v.items ≡ items.now) }
+        ensures cases { MatchOption result (CAP < length items.now) (λ v. v.items ≡ items.now) }
+        ensures fits { IfSome result (λ v. length v.items ≤ CAP) }
     {
         let mut all = InlineVec::new(filler);
         all.try_extend(items).ok()?;
@@ -56,7 +58,8 @@ impl<T: Copy, const CAP: usize> InlineVec<T, CAP> {
 
     /// The first `len` items of the array, if it has so many.
     pub fn from_array(cells: [T; CAP], len: usize) -> Option<InlineVec<T, CAP>>
-        ensures { MatchOption result (CAP < len) (λ v. v.items ≡ take len cells) }
+        ensures cases { MatchOption result (CAP < len) (λ v. v.items ≡ take len cells) }
+        ensures fits { IfSome result (λ v. length v.items ≤ CAP) }
     {
         if len <= CAP {
             Some(InlineVec { cells, len })
@@ -101,6 +104,7 @@ impl<T: Copy, const CAP: usize> InlineVec<T, CAP> {
         ensures ok { OnOk result (self.new.items ≡ self.old.items ++ item ∷ []) }
         ensures err { OnErr result (self.new ≡ self.old) }
         ensures capped { self.new.items ≡ take CAP (self.old.items ++ item ∷ []) }
+        ensures fits { length self.new.items ≤ CAP }
     {
         if self.is_full() {
             return Err(Full);
@@ -115,6 +119,7 @@ impl<T: Copy, const CAP: usize> InlineVec<T, CAP> {
         ensures variant { is_ok result ≡ nat_le (length self.old.items + length more.now) CAP }
         ensures ok { OnOk result (self.new.items ≡ self.old.items ++ more.now) }
         ensures err { OnErr result (self.new ≡ self.old) }
+        ensures fits { length self.new.items ≤ CAP }
     {
         if more.len() > CAP - self.len {
             return Err(Full);
@@ -131,6 +136,7 @@ impl<T: Copy, const CAP: usize> InlineVec<T, CAP> {
         ensures variant { is_ok result ≡ nat_le (length part.now) (length self.old.items) }
         ensures ok { OnOk result (self.new.items ≡ part.now ++ drop (length part.now) self.old.items) }
         ensures err { OnErr result (self.new ≡ self.old) }
+        ensures fits { length self.new.items ≤ CAP }
     {
         if part.len() > self.len {
             return Err(Full);

@@ -1,7 +1,7 @@
 -- The whole run of a target, from the search for its script on. It depends on the target's name alone.
 use Rattle.std.specs.Prelude.{cond, List, [], ◌∷◌, is_some}
 use Rattle.names.specs.Names.{Bytes}
-use Rattle.faults.specs.declared.fault.ScriptFault.TheVariants.{Absent as NotThere}
+use Rattle.faults.specs.declared.script_fault.ScriptFault.TheVariants.{Absent as NotThere}
 use Rattle.script.specs.Lines.{lines}
 use Rattle.script.specs.Tree.{Tree, stop, ask, Entries, entered, with_entry, full, unless_full, wanted_unless, run}
 use Rattle.script.specs.Candidates.{Candidate, candidates}

@@ -3,8 +3,8 @@ use Rattle.std.specs.Prelude.{ℕ, ◌+◌, Bool, true, false, cond, ◌&&◌, L
 use Rattle.std.specs.Str.{bytes_eq}
 use Rattle.names.specs.Limits.{page_max, entries_max}
 use Rattle.names.specs.Names.{Bytes, is_name}
-use Rattle.faults.specs.declared.fault.ScriptFault.{ScriptFault}
-use Rattle.faults.specs.declared.fault.ScriptFault.TheVariants.{UnknownWord, NotAName, Absent as NotThere, Present, NotNeeded, PageTooLong, TooManyEntries}
+use Rattle.faults.specs.declared.script_fault.ScriptFault.{ScriptFault}
+use Rattle.faults.specs.declared.script_fault.ScriptFault.TheVariants.{UnknownWord, NotAName, Absent as NotThere, Present, NotNeeded, PageTooLong, TooManyEntries}
 use Rattle.script.specs.Words.{spelled_by, rest_of}
 use Rattle.script.specs.declared.word.Word.{Word}
 use Rattle.script.specs.declared.word.Word.TheVariants.{Need, IfCreate, IfHas, Say, Copy}

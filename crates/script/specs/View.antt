@@ -2,7 +2,7 @@
 use Rattle.std.specs.Prelude.{◌≡◌, ℕ, ◌+◌, ◌++◌, Some, None, Ok, Err, Option, Result}
 use Rattle.names.specs.Names.{Bytes}
 use Rattle.names.specs.Spelled.{spelled}
-use Rattle.faults.specs.declared.fault.ScriptFault.{ScriptFault}
+use Rattle.faults.specs.declared.script_fault.ScriptFault.{ScriptFault}
 use Rattle.script.specs.Lines.{lines}
 use Rattle.script.specs.Tree.{Tree, done, stop, Entries, Does, pass, skip, add, fail, query, goes, run, Offer, wanted, refused}
 use Rattle.script.specs.Pages.{content}

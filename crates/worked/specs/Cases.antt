@@ -2,7 +2,7 @@
 use Rattle.std.specs.Prelude.{◌≡◌, true, false, cond, List, [], ◌∷◌, ◌++◌, replicate, Some, None, codes}
 use Rattle.std.specs.Str.{bytes_eq}
 use Rattle.names.specs.Names.{Bytes, is_name}
-use Rattle.faults.specs.declared.fault.ScriptFault.TheVariants.{Cycle, TooDeep}
+use Rattle.faults.specs.declared.script_fault.ScriptFault.TheVariants.{Cycle, TooDeep}
 use Rattle.clean.specs.Files.{Files}
 use Rattle.clean.specs.Evaluate.{made, failed, clean}
 use Rattle.faults.specs.declared.cause.Cause.TheVariants.{Script}

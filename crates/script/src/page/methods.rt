@@ -1,6 +1,6 @@
 ghost use Rattle.std.specs.Prelude.{◌≡◌, ℕ, ◌+◌, ◌<◌, ◌≤◌, [], ◌++◌, length, if◌then◌else◌, is_ok, MatchOption, nat_le};
 ghost use Rattle.names.specs.Limits.{page_max};
-ghost use Rattle.faults.specs.declared.fault.ScriptFault.TheVariants.{PageTooLong};
+ghost use Rattle.faults.specs.declared.script_fault.ScriptFault.TheVariants.{PageTooLong};
 ghost use Rattle.script.specs.Templates.{meant};
 ghost use Rattle.script.specs.Pages.{content};
 
