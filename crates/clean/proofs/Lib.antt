@@ -6,3 +6,4 @@ pub mod Bounds
 pub mod Local
 pub mod Skips
 pub mod Scripted
+pub mod Causes

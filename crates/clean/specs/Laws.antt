@@ -15,7 +15,8 @@ use Rattle.script.specs.Search.{whole_run}
 use Rattle.clean.specs.Files.{Files}
 use Rattle.clean.specs.Evaluate.{Outcome, page, follow, evaluate, made, failed, clean}
 use Rattle.clean.specs.Trace.{asked, questions, Agree}
-use Rattle.faults.specs.declared.cause.Cause.TheVariants.{Script}
+use Rattle.faults.specs.declared.cause.Cause.{Cause}
+use Rattle.faults.specs.declared.cause.Cause.TheVariants.{Misnamed, Oversize, Unknown, Plain, Disk, Spent, Spoiled, Narrow, Garbled, Script}
 
 -- The line behind an `ifhas` of an absent name may be any line.
 abbrev pub SkippedLinesDoNothing : Type 0
@@ -55,3 +56,19 @@ abbrev pub TrailsEndInTheTarget : Type 0
 TrailsEndInTheTarget =
     (laid : Files) (n : Bytes) (f : ScriptFault) (trail : Steps) → clean laid n ≡ failed (Script f) trail
     → (length trail ≤ depth_max) × ((inner : Steps) × (l : ℕ) × (trail ≡ inner ++ ((n, l) ∷ [])))
+
+-- A name has no page for one of four causes, and a trail only where a script is at fault.
+abbrev pub IsClean : Cause → Steps → Type 0
+IsClean Misnamed trail = trail ≡ []
+IsClean Oversize trail = ⊥
+IsClean Unknown trail = trail ≡ []
+IsClean Plain trail = trail ≡ []
+IsClean (Disk why) trail = ⊥
+IsClean Spent trail = ⊥
+IsClean Spoiled trail = ⊥
+IsClean Narrow trail = ⊥
+IsClean Garbled trail = ⊥
+IsClean (Script f) trail = Unit {0}
+
+abbrev pub CausesAreClean : Type 0
+CausesAreClean = (laid : Files) (n : Bytes) (c : Cause) (trail : Steps) → clean laid n ≡ failed c trail → IsClean c trail

@@ -1,4 +1,4 @@
-ghost use Rattle.std.specs.Prelude.{◌≡◌, [], ◌∷◌, ◌++◌, map, length, take, nat_le};
+ghost use Rattle.std.specs.Prelude.{◌≡◌, ◌≤◌, [], ◌∷◌, ◌++◌, map, length, take, nat_le};
 ghost use Rattle.names.specs.Limits.{depth_max};
 ghost use Rattle.names.specs.Spelled.{spelled};
 ghost use Rattle.clean.specs.Evaluate.{member};
@@ -18,6 +18,7 @@ fn is_among(targets: &[Name], name: &Name) -> bool
 #[derive(Clone, Copy)]
 pub struct Chain {
     targets: InlineVec<Name, DEPTH_MAX>,
+    ghost short: { length targets.items ≤ depth_max },
 }
 
 impl Chain {

@@ -29,13 +29,13 @@ pub struct Opening {
 
 /// A target that is open, over the laid files: the chain ends in it.
 #[derive(Clone, Copy)]
-struct Open<'a> {
+struct OpenTarget<'a> {
     files: &'a Files,
     chain: Chain,
     target: Name,
 }
 
-impl Open<'_> {
+impl OpenTarget<'_> {
     /// Finds the target's script.
     fn seek(&self) -> Result<Opening, Fault>
         ensures { sought (spelled self.now.target) result (opening (laid self.now.files.now) (all_candidates (spelled self.now.target)) []) }
@@ -88,6 +88,7 @@ impl Open<'_> {
     }
 
     /// Answers one question of a run.
+    // Matches and no `map_err`: tried, and in this ring of calls the proof did not find what a closure makes of the error.
     #[cycle(drive_evaluate_fetch_tell)]
     fn tell(&self, run: &mut Run, question: Question) -> Result<(), Fault>
         requires { 0 < length (opened self.now.chain) }
@@ -133,7 +134,7 @@ impl Open<'_> {
                 if self.chain.is_full() {
                     return Err(Fault::new(ScriptFault::TooDeep.into()));
                 }
-                let needed = Open {
+                let needed = OpenTarget {
                     files: self.files,
                     chain: self.chain.with(*name),
                     target: *name,
@@ -154,7 +155,7 @@ fn page_of(files: &Files, name: &[u8]) -> Result<Page, Fault>
         Status::Source(_) => Err(Fault::new(Cause::Plain)),
         Status::Target => {
             let chain = Chain::new().with(target);
-            let asked = Open {
+            let asked = OpenTarget {
                 files,
                 chain,
                 target,
@@ -166,6 +167,7 @@ fn page_of(files: &Files, name: &[u8]) -> Result<Page, Fault>
 
 /// Clean evaluation of a name that is given as bytes: its page over the laid files, as from bare files. Where there is
 /// none, the fault stands in the lent place, which a page leaves as it was.
+// The caller lends the place, as every fault here is handed out.
 pub fn clean_page(files: &Files, name: &[u8], fault: &mut Fault) -> Result<Page, Failed>
     ensures value { answered result fault.new ≡ clean (laid files.now) name.now }
     ensures kept { is_ok result ≡ true → fault.new ≡ fault.old }

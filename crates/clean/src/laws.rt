@@ -1,4 +1,4 @@
-ghost use Rattle.clean.specs.Laws.{SkippedLinesDoNothing, EvaluationIsLocal, PagesAreMadeAlone, PagesAreShort, RunsMakeFewEntries, TrailsEndInTheTarget};
+ghost use Rattle.clean.specs.Laws.{SkippedLinesDoNothing, EvaluationIsLocal, PagesAreMadeAlone, PagesAreShort, RunsMakeFewEntries, TrailsEndInTheTarget, CausesAreClean};
 
 /// The laws of clean evaluation.
 pub fn laws()
@@ -8,4 +8,5 @@ pub fn laws()
     ensures short { PagesAreShort }
     ensures few { RunsMakeFewEntries }
     ensures trails { TrailsEndInTheTarget }
+    ensures causes { CausesAreClean }
 {}

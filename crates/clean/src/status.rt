@@ -36,6 +36,7 @@ impl Status {
         if has_script(files, name) {
             return Status::Target;
         }
+        // No `map_or`: tried, and what it makes of the file did not prove.
         match files.get(name) {
             Some(bytes) => Status::Source(bytes),
             None => Status::Absent,

@@ -13,6 +13,7 @@ use names::limits::NAME_MAX;
 #[derive(Clone, Copy)]
 pub struct Candidate {
     pub script: Name,
+    // A length and no slice: a candidate outlives the name that it was made from.
     stem_len: usize,
 }
 

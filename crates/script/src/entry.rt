@@ -1,3 +1,6 @@
+ghost use Rattle.std.specs.Prelude.{◌≤◌, length};
+ghost use Rattle.names.specs.Limits.{entries_max};
+
 use crate::page::Page;
 use inline_vec::InlineVec;
 use names::Name;
@@ -25,4 +28,5 @@ pub struct Entry {
 #[derive(Clone, Copy)]
 pub struct Entries {
     made: InlineVec<Entry, ENTRIES_MAX>,
+    ghost few: { length made.items ≤ entries_max },
 }

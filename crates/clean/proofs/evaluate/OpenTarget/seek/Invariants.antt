@@ -5,7 +5,7 @@ use Rattle.script.specs.Made.{entries}
 use Rattle.script.specs.Searched.{to_come}
 use Rattle.clean.specs.Files.{laid}
 use Rattle.clean.specs.Opening.{opening}
-use Rattle.clean.proofs.evaluate.Open.seek.Given as goal
+use Rattle.clean.proofs.evaluate.OpenTarget.seek.Given as goal
 
 abbrev pub invariant-loop-script : goal.invariant-loop-script
 invariant-loop-script l =

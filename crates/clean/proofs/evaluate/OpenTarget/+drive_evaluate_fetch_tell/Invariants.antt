@@ -5,7 +5,7 @@ use Rattle.script.specs.View.{view, tree_of}
 use Rattle.clean.specs.Answered.{finished}
 use Rattle.clean.specs.Chains.{opened}
 use Rattle.clean.specs.Files.{laid}
-use Rattle.clean.proofs.evaluate.Open.+drive_evaluate_fetch_tell.Given as goal
+use Rattle.clean.proofs.evaluate.OpenTarget.+drive_evaluate_fetch_tell.Given as goal
 
 abbrev pub decreases-fetch : goal.decreases-fetch
 decreases-fetch l = 4 * (depth_max - length (opened l.self.now.chain))

@@ -15,7 +15,7 @@ use Rattle.clean.specs.Status.{status, is_absent}
 use Rattle.clean.specs.Told.{told}
 use Rattle.clean.specs.Files.{laid}
 use Rattle.clean.proofs.Drives.{too_deep, opened-run, stopped-run, passed, asked-fault, there, deeper}
-use Rattle.clean.proofs.evaluate.Open.+drive_evaluate_fetch_tell.Goals as goal
+use Rattle.clean.proofs.evaluate.OpenTarget.+drive_evaluate_fetch_tell.Goals as goal
 
 pub evaluate-returns-in_err-opening : goal.evaluate-returns-in_err-opening
 evaluate-returns-in_err-opening t c =
