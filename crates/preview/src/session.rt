@@ -83,10 +83,7 @@ fn take(files: &mut Files, name: &[u8]) -> Result<(), Cause>
 fn page(files: &Files, name: &[u8], fault: &mut Fault) -> Result<Page, Cause>
     ensures { replied page_with result (steps fault.new.trail) ≡ paging (clean (laid files.now) name.now) }
 {
-    match clean_page(files, name, fault) {
-        Ok(page) => Ok(page),
-        Err(_) => Err(fault.cause),
-    }
+    clean_page(files, name, fault).map_err(|_| fault.cause)
 }
 
 /// Does what a line asks for; the trail of a refusal stands in the lent fault.
@@ -122,13 +119,18 @@ pub fn respond(files: &mut Files, line: Option<&[u8]>, out: &mut Vec<u8>) -> Res
         × ((n : Bytes) → laid files.new n ≡ (responding (laid files.old) (option_map (λ x. x.now) line.entry)).1 n))
         (λ _. out.new.items ≡ out.old.items) }
 {
+    // A place to lend: what it holds is not read but where a page wrote it.
     let mut fault = Fault::new(Cause::Misnamed);
     match perform(files, read(line), &mut fault) {
         Ok(None) => Answer::Done.print_to(out),
         Ok(Some(page)) => Answer::Page(page.as_bytes()).print_to(out),
         Err(Refused::Cause(cause)) => {
-            fault.cause = cause;
-            Answer::No(&fault).print_to(out)
+            let trail = &fault.trail;
+            Answer::No {
+                number: cause.number(),
+                trail,
+            }
+            .print_to(out)
         }
         Err(Refused::OutOfMemory(why)) => Err(why),
     }

@@ -2,7 +2,6 @@
 use Rattle.std.specs.Prelude.{ℕ, [], ◌∷◌, ◌++◌, map, codes, decimal}
 use Rattle.std.specs.List.{flat_map}
 use Rattle.names.specs.Names.{Bytes}
-use Rattle.faults.specs.Causes.{number}
 use Rattle.faults.specs.Trails.{Steps, steps, frame_text}
 use Rattle.protocol.specs.Substitutes.{newline, bar, replaced}
 use Rattle.protocol.specs.declared.answer.Answer.{Answer}
@@ -25,7 +24,7 @@ abbrev pub answer_text : Answer → Bytes
 answer_text Done = codes "ok"
 answer_text (Counts changed same) = codes "ok " ++ (decimal changed ++ (32 ∷ decimal same))
 answer_text (Page page) = codes "page " ++ page_text page.now
-answer_text (No fault) = refusal_text (number fault.now.cause) (steps fault.now.trail)
+answer_text (No number trail) = refusal_text number (steps trail.now)
 
 abbrev pub answer_line : Answer → Bytes
 answer_line a = answer_text a ++ (newline ∷ [])

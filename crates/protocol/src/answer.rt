@@ -1,10 +1,9 @@
 ghost use Rattle.std.specs.Prelude.{◌≡◌, ◌∷◌, ◌++◌, is_ok, IfOk, if◌then◌else◌, codes, decimal};
-ghost use Rattle.faults.specs.Causes.{number};
 ghost use Rattle.faults.specs.Trails.{steps};
-ghost use Rattle.protocol.specs.Answers.{trail_text, page_text, answer_text, answer_line};
+ghost use Rattle.protocol.specs.Answers.{refusal_text, page_text, answer_text, answer_line};
 
 use crate::substitute::{BAR, NEWLINE, substitute};
-use faults::Fault;
+use faults::Trail;
 use std::alloc::{AllocError, Global};
 
 /// What a line is answered.
@@ -16,8 +15,9 @@ pub enum Answer<'a> {
     Counts { changed: u16, same: u16 },
     /// A page.
     Page(&'a [u8]),
-    /// A refusal, with the trail of a script's fault.
-    No(&'a Fault),
+    /// A refusal, by its number, with its trail.
+    // A number and no cause: a line says no more of it, and any number has its line.
+    No { number: u8, trail: &'a Trail },
 }
 
 fn counts_text(heap: Global, changed: u16, same: u16) -> Result<Vec<u8>, AllocError>
@@ -35,12 +35,11 @@ fn page_text(heap: Global, page: &[u8]) -> Result<Vec<u8>, AllocError>
 }
 
 #[tactic(auto, using(crate::proofs::Prints::trail_more, crate::proofs::Prints::trail_all))]
-fn refusal_text(heap: Global, fault: &Fault) -> Result<Vec<u8>, AllocError>
-    ensures { IfOk result (λ v. v.items ≡ codes "no " ++ (decimal (number fault.now.cause) ++ trail_text (steps fault.now.trail))) }
+fn refusal_text(heap: Global, number: u8, trail: &Trail) -> Result<Vec<u8>, AllocError>
+    ensures { IfOk result (λ v. v.items ≡ refusal_text number (steps trail.now)) }
 {
-    let number = fault.cause.number();
     let mut text = format!(in heap; "no {number}")?;
-    for frame in fault.trail.frames() {
+    for frame in trail.frames() {
         write!(text, " {frame}")?;
     }
     Ok(text.into_bytes())
@@ -56,7 +55,7 @@ impl Answer<'_> {
             Answer::Done => Vec::from_slice(heap, b"ok"),
             Answer::Counts { changed, same } => counts_text(heap, changed, same),
             Answer::Page(page) => page_text(heap, page),
-            Answer::No(fault) => refusal_text(heap, fault),
+            Answer::No { number, trail } => refusal_text(heap, number, trail),
         }
     }
 

@@ -1,5 +1,6 @@
-ghost use Rattle.std.specs.Prelude.{◌≡◌, true, [], ◌∷◌, if◌then◌else◌, ◌==◌};
+ghost use Rattle.std.specs.Prelude.{◌≡◌, ◌≤◌, true, [], ◌∷◌, length, if◌then◌else◌, IfSome, ◌==◌};
 ghost use Rattle.std.specs.Option.{option_map};
+ghost use Rattle.names.specs.Limits.{line_max};
 ghost use Rattle.names.specs.Names.{Bytes};
 ghost use Rattle.protocol.specs.Substitutes.{newline};
 ghost use Rattle.protocol.specs.InputLines.{input_lines};
@@ -90,7 +91,8 @@ impl LineBuffer {
 
     /// The line without its byte 10; `None` where it is longer than a line may be.
     pub fn line(&self) -> Option<&[u8]>
-        ensures { option_map (λ x. x.now) result ≡ held self.now }
+        ensures value { option_map (λ x. x.now) result ≡ held self.now }
+        ensures short { IfSome result (λ x. length x.now ≤ line_max) }
     {
         self.last.line().as_ref().map(|bytes| bytes.as_slice())
     }
