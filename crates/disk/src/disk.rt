@@ -24,6 +24,7 @@ pub trait Disk {
         ensures { (m : DiskState) → models self.now m → result ≡ used_at m (key_of key.now) };
 
     /// Puts the bytes of the key at the front of the buffer and says how many they are; or none, if it shows nothing.
+    // As `std::io::Read` does: the caller lends the memory, and no call allocates.
     fn read(&mut self, key: &Key, into: &mut [u8; BLOCK_MAX]) -> Result<Option<usize>, Refusal>
         ensures bound { Within result }
         ensures step { ReadsKey models self.old self.new (key_of key.now) result into.old into.new };

@@ -126,10 +126,7 @@ impl<D: Disk> Disk for ReadCache<D> {
         let Some(n) = self.below.read(key, into)? else {
             return Ok(None);
         };
-        // No read gives more than a block holds.
-        let Some(block) = Block::new(&into[..n]) else {
-            return Ok(Some(n));
-        };
+        let block = Block::new(&into[..n]).unwrap();
         let i = seek(&self.holds, key).unwrap_or(HOLDS - 1);
         bring_front(&mut self.holds, i);
         self.holds[0].refill(key, block);
