@@ -45,7 +45,7 @@ pub fn bytes_of(heap: Global, text: &[u8]) -> Result<Option<Vec<u8>>, AllocError
         return Ok(None);
     }
     let mut bytes = Vec::new(heap);
-    // A byte that is no hex digit makes an `Ok(None)`, which `?` hands not out; and `collect`'s clauses say nothing of an `Option`.
+    // A byte that is no hex digit makes an `Ok(None)`, which `?` does not hand out; and `collect`'s clauses say nothing of an `Option`.
     for &[high, low] in pairs {
         let Some(b) = byte_of(high, low) else {
             return Ok(None);
