@@ -11,7 +11,7 @@ use names::limits::PAGE_MAX;
 
 /// Puts what stands under the name on the shelf at the front of the buffer, and says how many bytes that is. A refusal
 /// leaves the buffer as it was.
-// The clause speaks of the buffer too, which `Performs` does not, and `Reads` says what the disk's own read does.
+// The clause speaks of the buffer too, which `Performs` does not, and `ReadsKey` says what the disk's own read does.
 pub fn show<D: Disk>(
     disk: &mut D,
     shelf: Shelf,

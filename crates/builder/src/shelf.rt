@@ -26,7 +26,7 @@ impl Shelf {
         }
     }
 
-    // Why a file on the shelf is not shown that was not read.
+    // The cause that a failed read is answered with.
     pub(crate) fn cause(self, why: ReadError) -> Cause
         ensures { result ≡ unread self why }
     {

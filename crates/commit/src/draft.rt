@@ -10,7 +10,7 @@ pub struct Draft {
     open: (),
 }
 
-// Removes the draft, as far as the charge goes.
+// What `abandon` does, with no `Draft` to spend: where `commit` discards, its own is spent already.
 fn discard<D: Disk>(disk: &mut D) -> Result<(), Refusal>
     ensures { Performs D.Disk.models disk.old disk.new result abandon_step }
 {

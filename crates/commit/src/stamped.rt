@@ -1,5 +1,5 @@
 ghost use Rattle.std.specs.Prelude.{◌≡◌, ◌<◌, ◌≤◌, [], length, drop, MatchOption};
-ghost use Rattle.names.specs.Limits.{page_max};
+ghost use Rattle.names.specs.Limits.{page_max, block_max};
 ghost use Rattle.disk.specs.DiskState.{DiskState};
 ghost use Rattle.disk.specs.Keys.{key_of};
 ghost use Rattle.commit.specs.Stamps.{with_stamp};
@@ -15,6 +15,7 @@ use names::limits::BLOCK_MAX;
 pub struct Stamped {
     bytes: InlineVec<u8, BLOCK_MAX>,
     ghost whole: { 4 ≤ length bytes.items },
+    ghost short: { length bytes.items ≤ block_max },
 }
 
 /// Why a stamp and the bytes behind it were not read.

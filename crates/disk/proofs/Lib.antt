@@ -1,5 +1,4 @@
 pub mod Lists
-pub mod SameKeys
 pub mod Unless
 pub mod Kept
 pub mod Shown

@@ -15,8 +15,8 @@ abbrev pub Performs : {S R : Type 0} → (S → DiskState → Type 0) → S → 
 Performs models old new answer step = (m : DiskState) → models old m → (answer ≡ (step m).0) × models new (step m).1
 
 -- the answer to a read of the key, and what the buffer holds after it
-abbrev pub Reads : {S : Type 0} → (S → DiskState → Type 0) → S → S → KeyId → Result (Option ℕ) Refusal → Bytes → Bytes → Type 0
-Reads models old new k answer before buf = (m : DiskState) → models old m → (answer ≡ read m k) × ((buf ≡ read_into m k before) × models new m)
+abbrev pub ReadsKey : {S : Type 0} → (S → DiskState → Type 0) → S → S → KeyId → Result (Option ℕ) Refusal → Bytes → Bytes → Type 0
+ReadsKey models old new k answer before buf = (m : DiskState) → models old m → (answer ≡ read m k) × ((buf ≡ read_into m k before) × models new m)
 
 -- the reply to a call, as a value, and what the buffer holds after it
 abbrev pub Replies : {S : Type 0} → (S → DiskState → Type 0) → S → S → Call → Bytes → Reply → Bytes → Bytes → Type 0

@@ -3,7 +3,7 @@ ghost use Rattle.disk.specs.Keys.{key_of};
 ghost use Rattle.disk.specs.DiskState.{DiskState, used_at};
 ghost use Rattle.disk.specs.Lawful.{Lawful};
 ghost use Rattle.disk.specs.Calls.{counted, Within, store as store_step, rename as rename_step, remove as remove_step, settle as settle_step};
-ghost use Rattle.disk.specs.Steps.{Performs, Reads, Restarts};
+ghost use Rattle.disk.specs.Steps.{Performs, ReadsKey, Restarts};
 
 use crate::key::Key;
 use crate::refusal::{Count, Refusal};
@@ -24,9 +24,10 @@ pub trait Disk {
         ensures { (m : DiskState) → models self.now m → result ≡ used_at m (key_of key.now) };
 
     /// Puts the bytes of the key at the front of the buffer and says how many they are; or none, if it shows nothing.
+    // As `std::io::Read` does: the caller lends the memory, and no call allocates.
     fn read(&mut self, key: &Key, into: &mut [u8; BLOCK_MAX]) -> Result<Option<usize>, Refusal>
         ensures bound { Within result }
-        ensures step { Reads models self.old self.new (key_of key.now) result into.old into.new };
+        ensures step { ReadsKey models self.old self.new (key_of key.now) result into.old into.new };
 
     /// Lets the key show the bytes. Until the next settle a cut may leave it with anything.
     fn store(&mut self, key: &Key, bytes: &[u8]) -> Result<(), Refusal>

@@ -4,6 +4,7 @@ mod block;
 mod call;
 mod disk;
 mod key;
+pub mod laws;
 mod refusal;
 
 pub use block::Block;

@@ -2,7 +2,7 @@ ghost use Rattle.std.specs.Prelude.{◌≡◌, ◌<◌, true, false, map, length
 ghost use Rattle.disk.specs.Keys.{key_of};
 ghost use Rattle.disk.specs.DiskState.{DiskState};
 ghost use Rattle.disk.specs.Calls.{dark, Within, store as store_step, rename as rename_step, remove as remove_step, settle as settle_step};
-ghost use Rattle.disk.specs.Steps.{Performs, Reads};
+ghost use Rattle.disk.specs.Steps.{Performs, ReadsKey};
 ghost use Rattle.layers.specs.Holds.{is_for, held, forgotten, hold_of, Caches};
 ghost use Rattle.layers.specs.Recent.{Recent, to_front};
 
@@ -114,7 +114,7 @@ impl<D: Disk> Disk for ReadCache<D> {
     /// A held key is answered without the disk below, which stays as it is, memory and all.
     fn read(&mut self, key: &Key, into: &mut [u8; BLOCK_MAX]) -> Result<Option<usize>, Refusal>
         ensures bound { Within result }
-        ensures step { Reads (Caches D.Disk.models) self.old self.new (key_of key.now) result into.old into.new }
+        ensures step { ReadsKey (Caches D.Disk.models) self.old self.new (key_of key.now) result into.old into.new }
         ensures spared { (m : DiskState) → D.Disk.models self.old.below m → dark m ≡ false → held self.old.holds (key_of key.now) ≡ true → self.new.below ≡ self.old.below }
         ensures recent { Recent result (key_of key.now) self.old.holds self.new.holds }
     {
@@ -126,10 +126,7 @@ impl<D: Disk> Disk for ReadCache<D> {
         let Some(n) = self.below.read(key, into)? else {
             return Ok(None);
         };
-        // No read gives more than a block holds.
-        let Some(block) = Block::new(&into[..n]) else {
-            return Ok(Some(n));
-        };
+        let block = Block::new(&into[..n]).unwrap();
         let i = seek(&self.holds, key).unwrap_or(HOLDS - 1);
         bring_front(&mut self.holds, i);
         self.holds[0].refill(key, block);

@@ -45,7 +45,7 @@ pub fn bytes_of(heap: Global, text: &[u8]) -> Result<Option<Vec<u8>>, AllocError
         return Ok(None);
     }
     let mut bytes = Vec::new(heap);
-    // No `?`, since no hex digit is no `Err`, and no `collect`, whose clauses say nothing of an `Option`.
+    // A byte that is no hex digit makes an `Ok(None)`, which `?` does not hand out; and `collect`'s clauses say nothing of an `Option`.
     for &[high, low] in pairs {
         let Some(b) = byte_of(high, low) else {
             return Ok(None);

@@ -2,7 +2,7 @@ ghost use Rattle.std.specs.Prelude.{MatchOption, ◌≡◌, ◌%◌, ◌<◌, �
 ghost use Rattle.disk.specs.Keys.{KeyId, key_of};
 ghost use Rattle.disk.specs.DiskState.{DiskState, blank};
 ghost use Rattle.disk.specs.Calls.{Within, store as store_step, rename as rename_step, remove as remove_step, settle as settle_step};
-ghost use Rattle.disk.specs.Steps.{Performs, Reads, Restarts};
+ghost use Rattle.disk.specs.Steps.{Performs, ReadsKey, Restarts};
 ghost use Rattle.two_copy.specs.Places.{places_in, copies, fits, used_place, refresh, place_of, vacancy_in, room_for};
 ghost use Rattle.two_copy.specs.Described.{Describes, settled_copy, present_copy};
 
@@ -106,7 +106,7 @@ impl Disk for TwoCopy {
 
     fn read(&mut self, key: &Key, into: &mut [u8; BLOCK_MAX]) -> Result<Option<usize>, Refusal>
         ensures bound { Within result }
-        ensures step { Reads Describes self.old self.new (key_of key.now) result into.old into.new }
+        ensures step { ReadsKey Describes self.old self.new (key_of key.now) result into.old into.new }
         ensures same { self.new ≡ self.old }
     {
         if self.charge == 0 {

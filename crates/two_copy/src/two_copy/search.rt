@@ -22,6 +22,7 @@ impl Place {
     }
 
     // Makes the place firm, at its settled content or at its present one.
+    // A bit and no enum: the definition of a restart takes the same bit.
     pub fn refresh(&mut self, old: bool)
         ensures { self.new ≡ refresh old self.old }
     {
@@ -62,6 +63,7 @@ pub fn idle_places(heap: Global, n: usize) -> Result<Vec<Place>, AllocError>
     ensures { IfOk result (λ v. v.items ≡ replicate n idle) }
 {
     let idle = Place {
+        // A filler: an unused place is for no key.
         key: Key::Draft,
         settled: None,
         present: None,

@@ -1,7 +1,6 @@
 use Rattle.std.proofs.Common.{◌≡◌, ◌<◌, false, length, None, Err, vec_items, sym, refl, ap, ◌∙◌, arith, rules}
 use Rattle.disk.specs.declared.refusal.Refusal.TheVariants.{Full}
-use Rattle.disk.specs.Keys.{key_of}
-use Rattle.disk.proofs.SameKeys.{eq-same_key}
+use Rattle.disk.specs.Keys.{key_of, same_key}
 use Rattle.two_copy.specs.Places.{copies, room_for}
 use Rattle.two_copy.proofs.Sought.{slot}
 use Rattle.two_copy.proofs.Slots.{fits-slot}
@@ -17,8 +16,9 @@ returns-in_err-j-clause-value c = λ m h.
     let b = key_of c.args.to.now in
     let f = rw c.in_ok-i.ensures.ok_part at c.shown.ensures in
     let n : room_for ps b ≡ None = sym c.room.ensures ∙ c.in_err-j.ensures.ok_part in
+    let d : same_key (key_of c.args.from.now) b ≡ false = search rules in
     let r : c.from_residual-in_err-j.result ≡ Err Full = search rules in
-    rw r (rename-full ps s.charge m h (key_of c.args.from.now) b c.if-self-eq0.false (sym (eq-same_key c.args.from.now c.args.to.now) ∙ sym c.if-eq.ensures) s.apart f.0 (no_room ps b n))
+    rw r (rename-full ps s.charge m h (key_of c.args.from.now) b c.if-self-eq0.false d s.apart f.0 (no_room ps b n))
 
 pub put-requires-clause-fit : goal.put-requires-clause-fit
 put-requires-clause-fit c =
@@ -38,7 +38,8 @@ put-requires-2-clause-fit c =
     let p = placed ps a c.in_ok-i.i f.1 in
     let g = roomy ps b c.in_ok-j.j (sym c.room.ensures ∙ c.in_ok-j.ensures.ok_part) in
     let l : slot ps b < length ps = omega (arith, g.0, g.1) in
-    let x = second_fits ps c.args.from.now c.args.to.now (record { key = c.args.to.now; settled = c.index.result.now.settled; present = c.index-old.result.now.present; firm = false }) refl (sym (eq-same_key c.args.from.now c.args.to.now) ∙ sym c.if-eq.ensures) s.apart p.0 l in
+    let n : same_key a b ≡ false = search rules in
+    let x = second_fits ps c.args.from.now c.args.to.now (record { key = c.args.to.now; settled = c.index.result.now.settled; present = c.index-old.result.now.present; firm = false }) refl n s.apart p.0 l in
     rw (c.put.ensures.0, p.1.0, g.0) x
 
 pub returns : goal.returns
@@ -51,7 +52,7 @@ returns c =
     let p = placed ps a c.in_ok-i.i f.1 in
     let g = roomy ps b c.in_ok-j.j (sym c.room.ensures ∙ c.in_ok-j.ensures.ok_part) in
     let l : slot ps b < length ps = omega (arith, g.0, g.1) in
-    let n = sym (eq-same_key c.args.from.now c.args.to.now) ∙ sym c.if-eq.ensures in record {
+    let n : same_key a b ≡ false = search rules in record {
       value = λ m h.
           let r = rename-done ps s.charge m h c.args.from.now c.args.to.now c.index-old.result.now c.index.result.now c.if-self-eq0.false n s.apart s.tidy f.0
           l (rw (← p.1.0) c.index-old.ensures) (rw (← g.0) c.index.ensures) in
