@@ -25,8 +25,8 @@ POINTS = {
         ("a buffer type: an array and how many of its places count", r"pub struct \w+(?:<[^>]*>)? \{[^}]*: \[[^\]]*; \w+\],[^}]*\b(?:len|count|depth): \w+,"),
         ("a cause of its own", r"pub enum Cause\b"),
         ("reading a decimal", r"fn (?:number|decimal|is_digit|has_lawful_start|may_be_number|number16|number8)\((?!self)"),
-        ("cutting at a byte", r"fn (?:cut|divide|blank_at|cut_last|first_word)\b"),
-        ("one function in place of another with the same contract", r"fn (?:of_line|dispatch|empty)\b"),
+        ("cutting at a byte", r"fn (?:cut|place_of|divide|blank_at|first_word)\("),
+        ("one function in place of another with the same contract", r"fn (?:of_line|dispatch|discard)\b|fn empty\(\) -> LineBuffer"),
     ],
     "3": [
         ("a range over indices", r"for \w+ in \(?\d+\.\."),
