@@ -167,7 +167,7 @@ fn page_of(files: &Files, name: &[u8]) -> Result<Page, Fault>
 
 /// Clean evaluation of a name that is given as bytes: its page over the laid files, as from bare files. Where there is
 /// none, the fault stands in the lent place, which a page leaves as it was.
-// The caller lends the place, as every fault here is handed out.
+// A match and no `map_err`: of a place that a closure writes, the proof does not know what it holds.
 pub fn clean_page(files: &Files, name: &[u8], fault: &mut Fault) -> Result<Page, Failed>
     ensures value { answered result fault.new ≡ clean (laid files.now) name.now }
     ensures kept { is_ok result ≡ true → fault.new ≡ fault.old }

@@ -41,6 +41,7 @@ impl Draft {
     {
         let Draft { open: () } = self;
         disk.settle()?;
+        // No `?`: where the disk is full, the draft is discarded before the refusal is passed on.
         if let Err(why) = disk.rename(&Key::Draft, key) {
             if why == Refusal::Full {
                 let _ = discard(disk);

@@ -51,7 +51,6 @@ fn dispatch<D: Disk>(disk: &mut D, call: &Call, bytes: &[u8], into: &mut [u8; BL
     }
 }
 
-// What follows says more than what a call does, each in its own way: laws of the states behind a call, a cut, and two disks.
 /// Makes the call. A store takes the bytes, and a read alone writes into the buffer.
 pub fn perform<D: Disk>(
     disk: &mut D,
@@ -66,6 +65,7 @@ pub fn perform<D: Disk>(
 }
 
 /// Cuts the power and restarts the disk: what was firm is still there.
+// Not `Restarts` alone: it does not say of the state after that what was firm is there.
 pub fn cut_power<D: Disk>(disk: &mut D, charge: u16, pick: u16)
     ensures { (m : DiskState) → D.Disk.models disk.old m → ((n : DiskState) × (D.Disk.models disk.new n × (Restarted m charge n × (Survived m n × Steady m n)))) }
 {

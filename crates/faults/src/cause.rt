@@ -31,7 +31,9 @@ pub enum Cause {
 }
 
 impl Cause {
-    /// The number by which a refusal is printed. A `From` would not say which number it gives. No call passes on another word of the disk than dark and full; those have 0.
+    /// The number by which a refusal is printed. No call passes on another word of the disk than dark and full; those
+    /// have 0.
+    // A method and no `From`: `u8::from(cause)` would not name which number is meant.
     pub fn number(self) -> u8
         ensures { result ≡ number self }
     {

@@ -10,8 +10,8 @@ use crate::script_fault::ScriptFault;
 use crate::trail::Trail;
 use names::Name;
 
-/// Why a call is refused, and the open targets that the fault passed through, innermost first. Only a script's faults
-/// have such a trail.
+/// Why a call is refused, and the open targets that the fault passed through, innermost first. `pass` gives only a
+/// script's faults a trail.
 #[derive(Clone, Copy)]
 pub struct Fault {
     pub cause: Cause,

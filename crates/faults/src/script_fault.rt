@@ -25,7 +25,8 @@ pub enum ScriptFault {
 }
 
 impl ScriptFault {
-    /// The number by which a refusal is printed. A `From` would not say which number it gives.
+    /// The number by which a refusal is printed.
+    // A method and no `From`: `u8::from(fault)` would not name which number is meant.
     pub fn number(self) -> u8
         ensures { result ≡ number self }
     {

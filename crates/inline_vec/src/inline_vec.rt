@@ -25,6 +25,7 @@ impl<T, const CAP: usize> Model for InlineVec<T, CAP> {
 
     ghost view = { λ v. record { items = take v.len v.cells; spare = drop v.len v.cells } };
 
+    // Callers see the items and not this, so that `fits` says it again where one needs it.
     ghost invariant = { λ v. (v.len ≤ CAP) × (length v.cells ≡ CAP) };
 
     ghost inverse = { λ v. record { cells = v.items ++ v.spare; len = length v.items } };
@@ -61,6 +62,7 @@ impl<T: Copy, const CAP: usize> InlineVec<T, CAP> {
         ensures cases { MatchOption result (CAP < len) (λ v. v.items ≡ take len cells) }
         ensures fits { IfSome result (λ v. length v.items ≤ CAP) }
     {
+        // No `then_some`: it would make the vector before the test.
         if len <= CAP {
             Some(InlineVec { cells, len })
         } else {

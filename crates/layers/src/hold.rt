@@ -3,7 +3,8 @@ use disk::{Block, Key};
 /// A key that was read, with its bytes; or an empty hold.
 #[derive(Clone, Copy)]
 pub struct Hold {
-    // Beside a block that means nothing at `None`: a hold is refilled and emptied in place, and an emptied one keeps its place.
+    // At `None` the block means nothing. No `Option` of both: a hold is a struct of the table that is refilled and emptied
+    // in place, with the block as it was.
     pub key: Option<Key>,
     pub block: Block,
 }

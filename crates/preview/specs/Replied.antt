@@ -1,8 +1,10 @@
 -- A reply in memory, by what it means.
-use Rattle.std.specs.Prelude.{Ok, Err, Some, None, Option, Result}
+use Rattle.std.specs.Prelude.{◌≡◌, Ok, Err, Some, None, Option, Result}
+use Rattle.names.specs.Names.{Bytes}
 use Rattle.faults.specs.Causes.{number}
 use Rattle.faults.specs.Trails.{Steps}
 use Rattle.faults.specs.declared.cause.Cause as faults
+use Rattle.clean.specs.Files.{Files}
 use Rattle.script.specs.Pages.{content}
 use Rattle.script.specs.declared.page.Page as memory
 use Rattle.preview.specs.Session.{Reply, done, page, no}
@@ -30,3 +32,7 @@ abbrev pub IfAnswered : {X : Type 0} → Result X Refused → (Result X faults.C
 IfAnswered (Ok x) P = P (Ok x)
 IfAnswered (Err (Cause c)) P = P (Err c)
 IfAnswered (Err (OutOfMemory e)) P = Unit {0}
+
+-- the reply, and the files after a call, are those of the step
+abbrev pub Answers : Reply × Files → Reply → Files → Type 0
+Answers step reply after = (reply ≡ step.0) × ((n : Bytes) → after n ≡ step.1 n)

@@ -9,7 +9,7 @@ ghost use Rattle.clean.specs.Evaluate.{clean};
 ghost use Rattle.protocol.specs.Substitutes.{newline, bar, replaced};
 ghost use Rattle.protocol.specs.Views.{request};
 ghost use Rattle.preview.specs.Session.{laying, taking, paging, answering, command_in, responding, reply_line};
-ghost use Rattle.preview.specs.Replied.{replied, done_with, page_with, made_with, IfAnswered};
+ghost use Rattle.preview.specs.Replied.{replied, done_with, page_with, made_with, IfAnswered, Answers};
 ghost use Rattle.preview.specs.declared.session.Refused.TheVariants.{Cause as ByCause, OutOfMemory as ByMemory};
 
 use clean::evaluate::clean_page;
@@ -57,8 +57,7 @@ fn decode(text: &[u8]) -> Option<Page>
 
 /// Lays a file; `|` in the text stands for byte 10.
 fn lay(files: &mut Files, name: &[u8], text: &[u8]) -> Result<(), Refused>
-    ensures { IfAnswered result (λ r. (replied done_with r [] ≡ (laying (laid files.old) name.now text.now).0)
-        × ((n : Bytes) → laid files.new n ≡ (laying (laid files.old) name.now text.now).1 n)) }
+    ensures { IfAnswered result (λ r. Answers (laying (laid files.old) name.now text.now) (replied done_with r []) (laid files.new)) }
 {
     let name = Name::new(name).ok_or(Cause::Misnamed)?;
     let file = decode(text).ok_or(Cause::Oversize)?;
@@ -68,8 +67,7 @@ fn lay(files: &mut Files, name: &[u8], text: &[u8]) -> Result<(), Refused>
 
 /// Takes a laid file away.
 fn take(files: &mut Files, name: &[u8]) -> Result<(), Cause>
-    ensures value { replied done_with result [] ≡ (taking (laid files.old) name.now).0 }
-    ensures after { (n : Bytes) → laid files.new n ≡ (taking (laid files.old) name.now).1 n }
+    ensures { Answers (taking (laid files.old) name.now) (replied done_with result []) (laid files.new) }
 {
     let name = Name::new(name).ok_or(Cause::Misnamed)?;
     if files.take(&name) {
@@ -93,8 +91,7 @@ fn perform(
     fault: &mut Fault,
 ) -> Result<Option<Page>, Refused>
     requires { steps fault.old.trail ≡ [] }
-    ensures { IfAnswered result (λ r. (replied made_with r (steps fault.new.trail) ≡ (answering (laid files.old) (option_map request command.entry)).0)
-        × ((n : Bytes) → laid files.new n ≡ (answering (laid files.old) (option_map request command.entry)).1 n)) }
+    ensures { IfAnswered result (λ r. Answers (answering (laid files.old) (option_map request command.entry)) (replied made_with r (steps fault.new.trail)) (laid files.new)) }
 {
     match command {
         Some(Command::Lay { name, text }) => lay(files, name, text)?,

@@ -74,6 +74,7 @@ const WORDS: [Word; 6] = [
     },
 ];
 
+// The table of `script` is searched so too; what the two share is std's `find`.
 fn form_of(word: &[u8]) -> Option<Form>
     ensures { result ≡ form_of word.now }
 {

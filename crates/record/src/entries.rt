@@ -8,7 +8,8 @@ use crate::entry::Entry;
 use crate::view::RecordView;
 
 /// The entries of a record, in order.
-// A place is kept, and no chain over places: a chain's type names its closure, which no result type can.
+// A place is kept. No chain over places: its type would name a closure, which no result type can. No range: where no
+// entry stands the place stays, and a range's `next` has gone on.
 #[derive(Clone, Copy)]
 pub struct Entries<'a> {
     view: RecordView<'a>,

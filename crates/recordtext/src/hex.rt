@@ -5,14 +5,14 @@ ghost use Rattle.recordtext.specs.Hex.{digit, digit_value, byte_value, hex_text,
 use std::alloc::{AllocError, Global};
 use std::fmt::Write;
 
-// The number that a digit stands for.
+// The number that a digit stands for. Not `to_digit`: it takes capitals too, and the form has small letters alone.
 fn value_of(digit: u8) -> Option<u8>
     ensures value { result ≡ digit_value «digit» }
     ensures bound { IfSome result (λ n. n < 16) }
 {
     match digit {
         b'0'..=b'9' => Some(digit - b'0'),
-        b'a'..=b'f' => Some(digit - 87),
+        b'a'..=b'f' => Some(digit - b'a' + 10),
         _ => None,
     }
 }

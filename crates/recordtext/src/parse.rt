@@ -2,7 +2,7 @@ use names::Name;
 use record::{Entry, Kind, Record, RecordWriter};
 use std::str::FromStr;
 
-// The first word, and what follows the blank behind it.
+// The first word, and what follows the blank behind it: std's `split_once`, where `cut` of `script` is for bytes.
 fn first_word(text: &str) -> (&str, &str) {
     text.split_once(' ').unwrap_or((text, ""))
 }

@@ -9,6 +9,7 @@ fn place_of(text: &[u8], at: u8) -> Option<usize>
 }
 
 /// What stands before the first byte `at`, and behind it.
+// Not `divide` of `protocol`, which answers `None` where no such byte stands; what the two share is std's `position`.
 #[tactic(auto, using(crate::proofs::Cuts::front_at, crate::proofs::Cuts::behind_at, crate::proofs::Cuts::front_whole, crate::proofs::Cuts::behind_none))]
 pub(crate) fn cut(text: &[u8], at: u8) -> (&[u8], &[u8])
     ensures front { result.0.now ≡ before at text.now }

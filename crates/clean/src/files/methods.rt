@@ -38,7 +38,7 @@ impl Files {
     }
 
     /// Takes a laid file away, and says whether there was one.
-    // A bool, as a set's `remove` has: there is nothing to hand out or to report.
+    // A bool and no `Option<Page>`: a caller asks only whether there was one.
     pub fn take(&mut self, name: &Name) -> bool
         ensures value { result ≡ is_some (laid self.old (spelled name.now)) }
         ensures after { (n : Bytes) → laid self.new n ≡ with_file (laid self.old) (spelled name.now) Nothing n }
