@@ -40,16 +40,7 @@ pub agree_forgotten : (m : DiskState) (k : KeyId) (hs : List Hold) → Agree m h
 agree_forgotten m k [] a = tt
 agree_forgotten m k (x ∷ hs) a = (by_cases (is_for x k) (λ e. rw e tt) (λ e. rw e a.0), agree_forgotten m k hs a.1)
 
--- holds silent on a key outlive its change
-pub agree_off : (m n : DiskState) (k : KeyId) (hs : List Hold) → silent k hs → ((j : KeyId) → same_key k j ≡ false → shown n j ≡ shown m j) → Agree m hs → Agree n hs
-agree_off m n k [] s h a = tt
-agree_off m n k (x ∷ hs) s h a =
-    (says_moved m n x.key x.block (λ j e. h j (other x.key j e s.0)) a.0, agree_off m n k hs s.1 h a.1)
-  where
-    other : (o : Option Key) (j : KeyId) → key_is o j ≡ true → key_is o k ≡ false → same_key k j ≡ false
-    other None j e f = absurd (both_ways _ refl e)
-    other (Some i) j e f = subst (λ z. same_key k z ≡ false) (same-key_is (key_of i) j e) (other_sym (key_of i) k f)
-
+-- holds silent on two keys outlive a change of both
 pub agree_off_two : (m n : DiskState) (k l : KeyId) (hs : List Hold) → silent k hs → silent l hs → ((j : KeyId) → same_key k j ≡ false → same_key l j ≡ false → shown n j ≡ shown m j) → Agree m hs → Agree n hs
 agree_off_two m n k l [] s t h a = tt
 agree_off_two m n k l (x ∷ hs) s t h a =
@@ -58,6 +49,12 @@ agree_off_two m n k l (x ∷ hs) s t h a =
     other : (k : KeyId) (o : Option Key) (j : KeyId) → key_is o j ≡ true → key_is o k ≡ false → same_key k j ≡ false
     other k None j e f = absurd (both_ways _ refl e)
     other k (Some i) j e f = subst (λ z. same_key k z ≡ false) (same-key_is (key_of i) j e) (other_sym (key_of i) k f)
+
+-- the hold of a key that changed is dropped
+pub agree_dropped : (m n : DiskState) (k : KeyId) (hs : List Hold) → ((j : KeyId) → same_key k j ≡ false → shown n j ≡ shown m j) → Agree m hs
+    → Agree n (map (forgotten k) hs)
+agree_dropped m n k hs h a =
+    agree_off_two m n k k (map (forgotten k) hs) (silent_forgotten k hs) (silent_forgotten k hs) (λ j e f. h j e) (agree_forgotten m k hs a)
 
 -- a hold found says what the key shows
 pub agree_hit : (m : DiskState) (k : KeyId) (hs : List Hold) (d : Hold) → Agree m hs → seek_hold hs k < length hs → shown m k ≡ Some (bytes_of (get_or hs (seek_hold hs k) d).block)

@@ -1,14 +1,11 @@
-use Rattle.std.proofs.Common.{map}
 use Rattle.disk.specs.Keys.{key_of}
 use Rattle.disk.specs.Calls.{store}
 use Rattle.disk.proofs.Shown.{store_other}
-use Rattle.layers.specs.Holds.{forgotten}
-use Rattle.layers.proofs.Agreed.{agree_forgotten, agree_off, silent_forgotten}
+use Rattle.layers.proofs.Agreed.{agree_dropped}
 use Rattle.layers.proofs.cache.ReadCacheDisk.store.Goals as goal
 
 pub returns-clause-value : goal.returns-clause-value
 returns-clause-value g c = λ m h.
     let k = key_of c.args.key.now in
     let e = c.store.ensures m h.0 in
-    let a = agree_off m (store m k c.args.bytes.now).1 k (map (forgotten k) c.args.self.now.holds) (silent_forgotten k _) (λ j n. store_other m j k c.args.bytes.now n) (agree_forgotten m k _ h.1) in
-    (e.0, (e.1, rw c.forget_all.ensures a))
+    (e.0, (e.1, rw c.forget_all.ensures (agree_dropped m (store m k c.args.bytes.now).1 k c.args.self.now.holds (λ j n. store_other m j k c.args.bytes.now n) h.1)))
