@@ -1,5 +1,5 @@
 -- A map in memory as laid files.
-use Rattle.std.proofs.Common.{◌≡◌, Bool, true, false, cond, List, [], ◌∷◌, is_some, Some, None, Option, sym, refl, ap, ◌∙◌, true≢false}
+use Rattle.std.proofs.Common.{◌≡◌, Bool, true, false, cond, List, [], ◌∷◌, length, is_some, Some, None, Option, sym, refl, ap, ◌∙◌, subst, true≢false, arith}
 use Rattle.std.specs.BTreeMap as tree
 use Rattle.std.specs.Map.{lookup, keys_of, values_of}
 use Rattle.std.specs.Ordering.{eq_by_cmp}
@@ -8,10 +8,12 @@ use Rattle.std.specs.Option.{option_map}
 use Rattle.std.specs.Str.{bytes_eq}
 use Rattle.std.specs.BTreeMap.{BTreeMap}
 use Rattle.std.proofs.lemmas.Slice.Eq.{bytes_eq-Decides}
+use Rattle.std.proofs.lemmas.List.{take_all}
 use Rattle.names.specs.Names.{Bytes, is_name}
 use Rattle.names.specs.Spelled.{spelled}
 use Rattle.names.specs.Order.{name_order}
 use Rattle.names.specs.declared.name.Name.{Name}
+use Rattle.names.proofs.Scan.{lawful-short}
 use Rattle.script.specs.Pages.{content}
 use Rattle.script.specs.declared.page.Page.{Page}
 use Rattle.clean.specs.Files.{Files, held, with_file}
@@ -33,7 +35,10 @@ held_at (e ∷ es) k =
 -- the name that lawful bytes spell
 abbrev name_of : (n : Bytes) → is_name n ≡ true → Name
 name_of n h =
-    record { text = record { bytes = n; spare = [] }; lawful = h }
+    record { bytes = n; len = length n; short = lawful-short n h; lawful = ap is_name (take_all (length n) n (omega arith)) ∙ h }
+
+name_of_spelled : (n : Bytes) (h : is_name n ≡ true) → spelled (name_of n h) ≡ n
+name_of_spelled n h = take_all (length n) n (omega arith)
 
 false_unless : (b : Bool) → (b ≡ true → ⊥) → b ≡ false
 false_unless true f = absurd (f refl)
@@ -74,7 +79,7 @@ module _ (m n : Map) (k : Name) (w : Option Page)
   pub held-put : (s : Bytes) → holds n s ≡ with_file (holds m) (spelled k) (option_map content w) s
   held-put s =
       by_bool (is_name s) _
-      (λ h. at_name (name_of s h))
+      (λ h. subst (λ (x : Bytes). holds n x ≡ with_file (holds m) (spelled k) (option_map content w) x) (name_of_spelled s h) (at_name (name_of s h)))
       (λ h. let e = not_key s k h in held_none (tree.keys n) (tree.values n) s h ∙ sym (rw e (held_none (tree.keys m) (tree.values m) s h)))
 
 pub none_there : (o : Option Page) → is_some o ≡ false → option_map content o ≡ None

@@ -1,14 +1,15 @@
 ghost use Rattle.std.specs.Prelude.{◌≡◌, ◌<◌, ◌≤◌, [], ◌++◌, length, drop, MatchOption};
 ghost use Rattle.names.specs.Limits.{block_max};
 
-use inline_vec::InlineVec;
 use names::limits::BLOCK_MAX;
 
-/// The bytes that one key shows.
+/// The bytes that one key shows. The first `len` of them count.
+// No `InlineVec`, whose length takes a whole word: a place of the sheet disk holds two blocks, and has to fit 2,100 bytes.
 #[derive(Clone, Copy)]
 pub struct Block {
-    bytes: InlineVec<u8, BLOCK_MAX>,
-    ghost short: { length bytes.items ≤ block_max },
+    bytes: [u8; BLOCK_MAX],
+    len: u16,
+    ghost short: { len ≤ block_max },
 }
 
 impl Block {
@@ -19,7 +20,8 @@ impl Block {
         ensures { bytes_of result ≡ [] }
     {
         Block {
-            bytes: InlineVec::new(0),
+            bytes: [0; BLOCK_MAX],
+            len: 0,
         }
     }
 
@@ -27,7 +29,16 @@ impl Block {
     pub fn new(bytes: &[u8]) -> Option<Block>
         ensures { MatchOption result (block_max < length bytes.now) (λ b. bytes_of b ≡ bytes.now) }
     {
-        InlineVec::from_slice(0, bytes).map(|bytes| Block { bytes })
+        let len = bytes.len();
+        if len > BLOCK_MAX {
+            return None;
+        }
+        let mut front = [0; BLOCK_MAX];
+        front[0..len].copy_from_slice(bytes);
+        Some(Block {
+            bytes: front,
+            len: len as u16,
+        })
     }
 
     /// Copies the bytes to the front of the buffer, and says how many they are.
@@ -35,8 +46,8 @@ impl Block {
         ensures many { result ≡ length (bytes_of self.now) }
         ensures after { into.new ≡ bytes_of self.now ++ drop result into.old }
     {
-        let bytes = self.bytes.as_slice();
-        into[..bytes.len()].copy_from_slice(bytes);
-        bytes.len()
+        let len = self.len as usize;
+        into[0..len].copy_from_slice(&self.bytes[0..len]);
+        len
     }
 }

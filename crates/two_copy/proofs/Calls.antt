@@ -2,6 +2,7 @@
 use Rattle.std.proofs.Common.{◌≡◌, ℕ, suc, ◌-◌, ◌<◌, ◌≤◌, Bool, true, false, not, ◌&&◌, ◌||◌, leb, List, [], ◌∷◌, ◌++◌, map, length, get_or, drop, set, is_some, Some, None, Ok, Err, Option, sym, refl, ap, ◌∙◌, subst, inl, inr, arith}
 use lib.Count.{ones}
 use Rattle.std.proofs.lemmas.Bool.{and_parts, both_ways, not-true, ne_eqb, le-ltb, le-leb, lt-leb}
+use Rattle.std.proofs.lemmas.List.{length-take}
 use Rattle.disk.specs.declared.refusal.Refusal.TheVariants.{Full}
 use Rattle.disk.specs.declared.key.Key.{Key}
 use Rattle.names.specs.Names.{Bytes}
@@ -27,7 +28,7 @@ use Rattle.two_copy.proofs.Modelled.{used-found, count_tally, count_ones, put_mo
 
 small_state : (o : Option Block) → Small (content_of o)
 small_state None = tt
-small_state (Some b) = b.short
+small_state (Some b) = let e = length-take b.len b.bytes in omega (arith, e, b.short)
 
 -- what a call answers, and what it leaves
 abbrev pub Owed : Answer → List Place → ℕ → Answer × DiskState → Type 0
@@ -210,4 +211,4 @@ module _ (ps : List Place) (charge : ℕ) (m : DiskState) (h : Models ps charge 
       subst (Owed (Ok tt) _ (charge - 1)) (sym (rename_is m a b (lit ps charge m h n) s (there ps charge m h a v) (slot-some ps charge m h b d l))) (refl, spent_models _ _ _ m2)
 
 pub block_fits : (b : Block) (bs : Bytes) → bytes_of b ≡ bs → length bs ≤ block_max
-block_fits b bs e = let n = ap length e in omega (arith, n, b.short)
+block_fits b bs e = let l = length-take b.len b.bytes in let n = ap length e in omega (arith, l, n, b.short)

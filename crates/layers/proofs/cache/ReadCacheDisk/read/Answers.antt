@@ -1,5 +1,5 @@
 use Rattle.std.proofs.Common.{◌≡◌, ℕ, ◌+◌, ◌<◌, List, ◌∷◌, ◌++◌, length, get_or, take, drop, set, Some, Ok, Option, Result, sym, refl, ap, ◌∙◌, subst, arith, rules}
-use Rattle.std.proofs.lemmas.List.{take_at}
+use Rattle.std.proofs.lemmas.List.{length-take, take_at}
 use Rattle.std.specs.Option.{unwrap_or}
 use Rattle.std.proofs.lemmas.Bool.{both_ways}
 use Rattle.names.specs.Names.{Bytes}
@@ -30,7 +30,7 @@ returns-in-Some g c =
     let b = (get_or front 0 d).block in
     let at : get_or hs (seek_hold hs k) d ≡ get_or front 0 d = ap (λ (j : ℕ). get_or hs j d) (sym f.0) ∙ sym (ap (λ (xs : List Hold). get_or xs 0 d) e) in
     record {
-      bound = omega (arith, c.copy_into.ensures.many, b.short);
+      bound = omega (arith, c.copy_into.ensures.many, length-take b.len b.bytes, b.short);
       step = λ m h.
           let l : seek_hold hs k < length hs = omega (arith, f.0, f.1) in
           let hit : shown m k ≡ Some (bytes_of b) = agree_hit m k hs d h.1 l ∙ ap (λ (x : Hold). Some (bytes_of x.block)) at in

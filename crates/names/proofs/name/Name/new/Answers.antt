@@ -1,20 +1,23 @@
-use Rattle.std.proofs.Common.{◌≡◌, false, length, sym, rules, MatchOption, subst, is_ok, ◌<◌}
+use Rattle.std.proofs.Common.{◌≤◌, length, sym, ap, ◌∙◌, rules}
+use Rattle.std.proofs.lemmas.List.{take_at}
 use Rattle.names.specs.Names.{is_name}
-use Rattle.names.specs.Spelled.{spelled}
-use Rattle.names.proofs.Ascii.{refused_text}
-use Rattle.names.proofs.Scan.{too_long}
+use Rattle.names.proofs.Scan.{lawful-short}
 use Rattle.names.proofs.name.Name.new.Goals as goal
 
-pub returns-in_err-ok : goal.returns-in_err-ok
-returns-in_err-ok c =
-    let e : is_ok c.from_utf8.result ≡ false = search rules in
-    let n = refused_text _ _ c.from_utf8.result c.args.bytes.now e c.from_utf8.ensures.cases in
-    subst (λ r. MatchOption r (is_name c.args.bytes.now ≡ false) (λ n. spelled n ≡ c.args.bytes.now)) (sym c.from_residual.ensures) n
+pub slice_bounds-front-end : goal.slice_bounds-front-end
+slice_bounds-front-end c =
+    let k : length c.args.bytes.now ≤ 24 = lawful-short _ (sym c.if-not-is_name.ensures) in search rules
 
-pub returns-in_err-text : goal.returns-in_err-text
-returns-in_err-text c =
-    let e : is_ok c.from.result ≡ false = search rules in
-    let t : c.in_ok-ok.field-0.now ≡ c.args.bytes.now = search rules in
-    let l : 24 < length c.in_ok-ok.field-0.now = search rules in
-    let n = too_long c.args.bytes.now (subst (λ b. 24 < length b) t l) in
-    subst (λ r. MatchOption r (is_name c.args.bytes.now ≡ false) (λ n. spelled n ≡ c.args.bytes.now)) (sym c.from_residual-in_err-text.ensures) n
+pub overflow_cast-result : goal.overflow_cast-result
+overflow_cast-result c =
+    let k : length c.args.bytes.now ≤ 24 = lawful-short _ (sym c.if-not-is_name.ensures) in search rules
+
+pub invariant_of-result : goal.invariant_of-result
+invariant_of-result c =
+    let l = sym c.if-not-is_name.ensures in record {
+      short = lawful-short c.args.bytes.now l;
+      lawful = ap is_name (take_at c.copy_from_slice.new.self _ _ (ap length c.copy_from_slice.ensures.after) ∙ c.copy_from_slice.ensures.after) ∙ l;
+    }
+
+pub returns : goal.returns
+returns c = take_at c.copy_from_slice.new.self _ _ (ap length c.copy_from_slice.ensures.after) ∙ c.copy_from_slice.ensures.after

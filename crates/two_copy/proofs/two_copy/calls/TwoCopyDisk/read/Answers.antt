@@ -1,4 +1,5 @@
 use Rattle.std.proofs.Common.{◌≡◌, get_or, sym, vec_items, refl, ap, ◌∙◌, arith}
+use Rattle.std.proofs.lemmas.List.{length-take}
 use Rattle.two_copy.proofs.Rooms.{placed, not_placed}
 use Rattle.disk.specs.Keys.{key_of}
 use Rattle.disk.specs.Blocks.{bytes_of, content_of}
@@ -31,7 +32,7 @@ returns-in-None c = record {
 
 pub returns-in-Some-present : goal.returns-in-Some-present
 returns-in-Some-present c = let b = c.in-Some-present.block in record {
-  bound = omega (arith, c.copy_into.ensures.many, b.short);
+  bound = omega (arith, c.copy_into.ensures.many, length-take b.len b.bytes, b.short);
   same = refl;
   step = λ m h.
       let s = c.args.self.now in
