@@ -16,6 +16,9 @@ use std::alloc::{AllocError, Global};
 /// The bytes of memory that one key is reckoned at.
 const PLACE_BYTES: usize = 2100;
 
+// So the places lie within the bytes that a disk is made over.
+const _: () = prove!(size_of::<Place>() <= PLACE_BYTES);
+
 // Whether a restart with that pick takes the settled contents.
 fn takes_settled(pick: u16) -> bool
     ensures { result ≡ (pick % 2 == 0) }
