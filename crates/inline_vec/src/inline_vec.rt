@@ -52,9 +52,16 @@ impl<T: Copy, const CAP: usize> InlineVec<T, CAP> {
         ensures cases { MatchOption result (CAP < length items.now) (λ v. v.items ≡ items.now) }
         ensures fits { IfSome result (λ v. length v.items ≤ CAP) }
     {
-        let mut all = InlineVec::new(filler);
-        all.try_extend(items).ok()?;
-        Some(all)
+        // Tested first: no place is filled where there is no room.
+        if items.len() > CAP {
+            return None;
+        }
+        let mut cells = [filler; CAP];
+        cells[..items.len()].copy_from_slice(items);
+        Some(InlineVec {
+            cells,
+            len: items.len(),
+        })
     }
 
     /// The first `len` items of the array, if it has so many.
