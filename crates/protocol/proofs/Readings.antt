@@ -1,6 +1,6 @@
 -- A number read by the library's `parse`.
-use Rattle.std.proofs.Common.{◌≡◌, ℕ, ◌<◌, ◌≤◌, ◌^◌, ◌≢◌, Bool, true, false, cond, ◌&&◌, nat_le, [], ◌∷◌, length, get_or, Some, None, Result, Ok, Err, is_ok, MatchResult, inl, inr, sym, refl, arith, rules}
-use Rattle.std.proofs.lemmas.Bool.{cases_Bool, and_parts, leb-true, lt-leb}
+use Rattle.std.proofs.Common.{◌≡◌, ℕ, zero, suc, ◌+◌, ◌-◌, ◌*◌, ◌<◌, ◌≤◌, ◌^◌, ◌==◌, ◌≢◌, Bool, true, false, cond, ◌&&◌, nat_le, [], ◌∷◌, length, get_or, Some, None, Result, Ok, Err, is_ok, MatchResult, inl, inr, sym, refl, arith, rules}
+use Rattle.std.proofs.lemmas.Bool.{cases_Bool, and_parts, leb-true, lt-leb, eqb-false}
 use Rattle.std.proofs.lemmas.Str.{IsUtf8-from_ascii}
 use Rattle.std.proofs.lemmas.Str.Ascii.{IsAscii-from_reads}
 use Rattle.std.proofs.lemmas.Str.Parse.{IsNumeralModel, numerals_by_fold, digit_at, parse_plain}
@@ -33,6 +33,42 @@ refused most (b ∷ bs) h =
     elim (cases_Bool (digit b)) [
       | inl d ↦ let s : starts_well (b ∷ bs) ≡ false = (elim (cases_Bool (starts_well (b ∷ bs))) [ inl s ↦ absurd (let z : true ≡ false = rw (s, d) at h in cc) | inr s ↦ s ]) in rw s
       | inr d ↦ no_digits most (b ∷ bs) (rw d)
+    ]
+
+-- m with k zeros behind it
+abbrev zeros_behind : ℕ → ℕ → ℕ
+zeros_behind zero m = m
+zeros_behind (suc k) m = zeros_behind k (m * 10)
+
+grows : (k m n : ℕ) (bs : Bytes) → m ≤ n → k ≤ length bs → zeros_behind k m ≤ value_behind n bs
+grows zero m n [] h l = h
+grows zero m n (b ∷ bs) h l = grows zero m (n * 10 + (b - 48)) bs (omega (arith, h)) (omega arith)
+grows (suc k) m n [] h l = absurd (omega (arith, l))
+grows (suc k) m n (b ∷ bs) h l = grows k (m * 10) (n * 10 + (b - 48)) bs (omega (arith, h)) (omega (arith, l))
+
+first_above_zero : (b : ℕ) (bs : Bytes) → 0 < length bs → starts_well (b ∷ bs) ≡ true → digit b ≡ true → 1 ≤ b - 48
+first_above_zero b [] l s d = absurd (omega (arith, l))
+first_above_zero b (c ∷ cs) l s d = elim (cases_Bool (b == 48)) [
+  | inl e ↦ absurd (let z : false ≡ true = rw e at s in cc)
+  | inr e ↦ let k = digit_bounds b d in let n : b ≢ 48 = eqb-false b 48 e in omega arith
+]
+
+-- more digits than a u32 has make a number beyond it
+over : (most : ℕ) (bs : Bytes) → 10 < length bs → most < 2 ^ 32 → starts_well bs ≡ true → all_digits bs ≡ true → most < value_behind 0 bs
+over most [] l m s d = absurd (omega (arith, l))
+over most (b ∷ bs) l m s d =
+    let f = first_above_zero b bs (omega (arith, l)) s (and_parts (digit b) (all_digits bs) d).0 in
+    let g : 10000000000 ≤ value_behind 0 (b ∷ bs) = grows 10 1 (0 * 10 + (b - 48)) bs (omega (arith, f)) (omega (arith, l)) in
+    omega (arith, g, m)
+
+pub too_long : (most : ℕ) (bs : Bytes) → 10 < length bs → most < 2 ^ 32 → decimal_up_to most bs ≡ None
+too_long most bs l m =
+    elim (cases_Bool (starts_well bs)) [
+      | inl s ↦ elim (cases_Bool (all_digits bs)) [
+        | inl d ↦ let t : nat_le (value_behind 0 bs) most ≡ false = lt-leb (value_behind 0 bs) most (over most bs l m s d) in rw (s, d, t)
+        | inr d ↦ no_digits most bs d
+      ]
+      | inr s ↦ rw s
     ]
 
 told : (b : Bool) (n : ℕ) → then_some b n ≡ cond b (Some n) None

@@ -3,6 +3,9 @@ ghost use Rattle.protocol.specs.Decimals.{digit, starts_well, decimal_up_to, num
 
 use std::str;
 
+// The digits of the largest u32.
+const DIGITS_MAX: usize = 10;
+
 // Whether a number may start so: with a digit, which is `0` only where it stands alone.
 fn has_lawful_start(bytes: &[u8]) -> bool
     ensures { result ≡ (starts_well bytes.now && digit (slice_index bytes.now 0)) }
@@ -11,11 +14,12 @@ fn has_lawful_start(bytes: &[u8]) -> bool
 }
 
 /// The number up to `most` that the bytes write in decimal without a leading zero, if they write one.
-#[tactic(auto, using(crate::proofs::Readings::read, crate::proofs::Readings::unread))]
+#[tactic(auto, using(crate::proofs::Readings::read, crate::proofs::Readings::unread, crate::proofs::Readings::too_long))]
 pub fn decimal(bytes: &[u8], most: u32) -> Option<u32>
     ensures { result ≡ decimal_up_to most bytes.now }
 {
-    if !has_lawful_start(bytes) {
+    // Refused by its length before any of it is read, so that a long word costs no more than a short one.
+    if bytes.len() > DIGITS_MAX || !has_lawful_start(bytes) {
         return None;
     }
     let value = str::from_utf8(bytes).ok()?.parse::<u32>().ok()?;
