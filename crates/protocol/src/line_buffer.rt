@@ -1,4 +1,4 @@
-ghost use Rattle.std.specs.Prelude.{◌≡◌, ◌≤◌, true, [], ◌∷◌, length, if◌then◌else◌, IfSome, ◌==◌};
+ghost use Rattle.std.specs.Prelude.{◌≡◌, ◌≤◌, true, false, [], ◌∷◌, length, if◌then◌else◌, IfSome, ◌==◌};
 ghost use Rattle.std.specs.Option.{option_map};
 ghost use Rattle.names.specs.Limits.{line_max};
 ghost use Rattle.names.specs.Names.{Bytes};
@@ -9,33 +9,27 @@ use crate::substitute::NEWLINE;
 use inline_vec::InlineVec;
 use names::limits::LINE_MAX;
 
-/// The bytes of a line; none of them where they are more than a line may have.
-type Line = Option<InlineVec<u8, LINE_MAX>>;
+/// Whether a line is longer than a line may be.
+#[derive(Clone, Copy)]
+enum Extent {
+    Within,
+    Over,
+}
 
 /// A line, as far as it has come.
 #[derive(Clone, Copy)]
 enum Progress {
     /// Its end is still to come.
-    Open(Line),
+    Open(Extent),
     /// Its end has come, and the next byte begins another line.
-    Ended(Line),
-}
-
-impl Progress {
-    ghost use Rattle.protocol.specs.Collected.{line_in, line_of};
-
-    fn line(&self) -> &Line
-        ensures { line_in result.now ≡ line_of self.now }
-    {
-        match self {
-            Progress::Open(line) | Progress::Ended(line) => line,
-        }
-    }
+    Ended(Extent),
 }
 
 /// The lines of an input, collected byte by byte in fixed memory.
+// The bytes stand beside how far the line has come and not in it, so that a line's end moves none of them.
 #[derive(Drop)]
 pub struct LineBuffer {
+    bytes: InlineVec<u8, LINE_MAX>,
     last: Progress,
 }
 
@@ -48,7 +42,8 @@ impl LineBuffer {
         ensures { (bs : Bytes) → to_come result bs ≡ input_lines bs }
     {
         LineBuffer {
-            last: Progress::Open(Some(InlineVec::new(0))),
+            bytes: InlineVec::new(0),
+            last: Progress::Open(Extent::Within),
         }
     }
 
@@ -57,7 +52,8 @@ impl LineBuffer {
         ensures { (held self.new ≡ begun self.old) × (is_open self.new ≡ true) }
     {
         if let Progress::Ended(_) = self.last {
-            self.last = Progress::Open(Some(InlineVec::new(0)));
+            self.bytes.clear();
+            self.last = Progress::Open(Extent::Within);
         }
     }
 
@@ -67,10 +63,19 @@ impl LineBuffer {
         requires { is_open self.old ≡ true }
         ensures { (held self.new ≡ grown (held self.old) byte) × (is_open self.new ≡ true) }
     {
-        if let Progress::Open(Some(bytes)) = &mut self.last {
-            if bytes.try_push(byte).is_err() {
-                self.last = Progress::Open(None);
+        if let Progress::Open(Extent::Within) = self.last {
+            if self.bytes.try_push(byte).is_err() {
+                self.last = Progress::Open(Extent::Over);
             }
+        }
+    }
+
+    // The line has its end.
+    fn end(&mut self)
+        ensures { (held self.new ≡ held self.old) × (is_open self.new ≡ false) }
+    {
+        if let Progress::Open(extent) = self.last {
+            self.last = Progress::Ended(extent);
         }
     }
 
@@ -82,7 +87,7 @@ impl LineBuffer {
     {
         self.begin();
         if byte == NEWLINE {
-            self.last = Progress::Ended(*self.last.line());
+            self.end();
             return true;
         }
         self.add(byte);
@@ -94,16 +99,21 @@ impl LineBuffer {
         ensures value { option_map (λ x. x.now) result ≡ held self.now }
         ensures short { IfSome result (λ x. length x.now ≤ line_max) }
     {
-        self.last.line().as_ref().map(|bytes| bytes.as_slice())
+        match self.last {
+            Progress::Open(Extent::Within) | Progress::Ended(Extent::Within) => {
+                Some(self.bytes.as_slice())
+            }
+            Progress::Open(Extent::Over) | Progress::Ended(Extent::Over) => None,
+        }
     }
 
     /// The input ends here. Whether that leaves a line without its end, which `line` then gives.
     pub fn ends_within_line(&self) -> bool
         ensures { to_come self.now [] ≡ (if result then held self.now ∷ [] else []) }
     {
-        match &self.last {
-            Progress::Open(Some(bytes)) => !bytes.is_empty(),
-            Progress::Open(None) => true,
+        match self.last {
+            Progress::Open(Extent::Within) => !self.bytes.is_empty(),
+            Progress::Open(Extent::Over) => true,
             Progress::Ended(_) => false,
         }
     }
