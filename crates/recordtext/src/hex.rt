@@ -3,7 +3,6 @@ ghost use Rattle.std.specs.Option.{option_map};
 ghost use Rattle.recordtext.specs.Hex.{digit, digit_value, byte_value, hex_text, hex_bytes, HexBack};
 
 use std::alloc::{AllocError, Global};
-use std::fmt::Write;
 
 // The number that a digit stands for. Not `to_digit`: it takes capitals too, and the form has small letters alone.
 fn value_of(digit: u8) -> Option<u8>
@@ -24,6 +23,24 @@ fn byte_of(high: u8, low: u8) -> Option<u8>
     Some(16 * value_of(high)? + value_of(low)?)
 }
 
+// The digit of a number below 16.
+fn digit_of(n: u8) -> u8
+    requires { n < 16 }
+    ensures value { result ≡ digit n }
+    ensures ascii { result < 128 }
+{
+    if n < 10 { b'0' + n } else { b'a' + (n - 10) }
+}
+
+// The two digits of a byte, behind what stands. No `{b:02x}`: a formatter made for each byte takes several times as long.
+fn push_byte(text: &mut String, b: u8) -> Result<(), AllocError>
+    ensures { OnOk result (string_bytes text.new ≡ string_bytes text.old ++ (digit (b / 16) ∷ digit (b % 16) ∷ [])) }
+{
+    text.push(digit_of(b / 16) as char)?;
+    text.push(digit_of(b % 16) as char)?;
+    Ok(())
+}
+
 /// The hex digits of the bytes.
 pub fn hex_of(heap: Global, bytes: &[u8]) -> Result<String, AllocError>
     ensures law { HexBack }
@@ -31,7 +48,7 @@ pub fn hex_of(heap: Global, bytes: &[u8]) -> Result<String, AllocError>
 {
     let mut text = String::new(heap);
     for b in bytes {
-        write!(text, "{b:02x}")?;
+        push_byte(&mut text, *b)?;
     }
     Ok(text)
 }
