@@ -9,6 +9,7 @@ use Rattle.script.specs.Pages.{content}
 use Rattle.script.specs.Made.{entries}
 use Rattle.script.specs.Searched.{candidate}
 use Rattle.script.specs.declared.page.Page.{Page}
+use Rattle.script.specs.declared.entry.Entries.{Entries}
 use Rattle.clean.specs.Files.{Files}
 use Rattle.clean.specs.Status.{status}
 use Rattle.clean.specs.Evaluate.{Outcome, follow, yields, evaluate, lacking_in, Answer, made, failed, as_answer}
@@ -40,10 +41,10 @@ gets laid chain n = yields chain (evaluate laid (depth_max - length chain) chain
 abbrev pub finished : Files → List Bytes → Bytes → Tree → Outcome
 finished laid chain t tree = follow t (lacking_in laid) (gets laid chain) tree
 
--- the search of the target t has found what the run begins with, or has the fault that stops it
-abbrev pub sought : Bytes → Result Opening Fault → spec.Opening → Type 0
-sought t (Ok o) found = spec.begins (candidate t o.script).stem (content o.text) (entries o.entries) ≡ found
-sought t (Err f) found = (why : ScriptFault) × (found ≡ spec.stops why) × (told_of f ≡ failed (Script why) ((t, 0) ∷ []))
+-- the search of the target t has found what the run begins with, its entries beside it, or has the fault that stops it
+abbrev pub sought : Bytes → Result Opening Fault → Entries → spec.Opening → Type 0
+sought t (Ok o) es found = spec.begins (candidate t o.script).stem (content o.text) (entries es) ≡ found
+sought t (Err f) es found = (why : ScriptFault) × (found ≡ spec.stops why) × (told_of f ≡ failed (Script why) ((t, 0) ∷ []))
 
 -- one question of the run of t, told: the run goes on from the one tree to the other, or has failed
 abbrev pub Told : Result (Unit {0}) Fault → Files → List Bytes → Bytes → Tree → Tree → Type 0

@@ -2,6 +2,7 @@ ghost use Rattle.std.specs.Prelude.{◌≡◌, ◌<◌, ◌≤◌, true, [], len
 ghost use Rattle.names.specs.Spelled.{spelled};
 ghost use Rattle.script.specs.Candidates.{candidates as all_candidates};
 ghost use Rattle.script.specs.Tree.{query};
+ghost use Rattle.script.specs.Made.{entries as made};
 ghost use Rattle.script.specs.Search.{whole_run};
 ghost use Rattle.script.specs.View.{view, tree_of, after_doing};
 ghost use Rattle.clean.specs.Files.{laid};
@@ -19,12 +20,11 @@ use faults::{Cause, Failed, Fault, ScriptFault};
 use names::Name;
 use script::{Candidate, Candidates, Entries, Kind, Page, Question, Run};
 
-/// A script that was found for a target, and the entries that the search made.
+/// A script that was found for a target.
 #[derive(Clone, Copy)]
 pub struct Opening {
     script: Candidate,
     text: Page,
-    entries: Entries,
 }
 
 /// A target that is open, over the laid files: the chain ends in it.
@@ -36,11 +36,12 @@ struct OpenTarget<'a> {
 }
 
 impl OpenTarget<'_> {
-    /// Finds the target's script.
-    fn seek(&self) -> Result<Opening, Fault>
-        ensures { sought (spelled self.now.target) result (opening (laid self.now.files.now) (all_candidates (spelled self.now.target)) []) }
+    /// Finds the target's script, and makes the entries of the search.
+    // The entries are lent: they have some thirty times a page's bytes, which a result that held them would move.
+    fn seek(&self, entries: &mut Entries) -> Result<Opening, Fault>
+        requires { made entries.old ≡ [] }
+        ensures { sought (spelled self.now.target) result entries.new (opening (laid self.now.files.now) (all_candidates (spelled self.now.target)) []) }
     {
-        let mut entries = Entries::new();
         for script in Candidates::new(self.target) {
             if !entries.has(Kind::Absent, &script.script) {
                 if entries.is_full() {
@@ -48,11 +49,7 @@ impl OpenTarget<'_> {
                 }
                 if let Some(text) = self.files.get(&script.script) {
                     entries.push(Kind::Script, script.script, Page::new());
-                    return Ok(Opening {
-                        script,
-                        text,
-                        entries,
-                    });
+                    return Ok(Opening { script, text });
                 }
                 entries.push(Kind::Absent, script.script, Page::new());
             }
@@ -66,9 +63,10 @@ impl OpenTarget<'_> {
         requires { 0 < length (opened self.now.chain) }
         ensures { yielded result ≡ as_answer (finished (laid self.now.files.now) (opened self.now.chain) (spelled self.now.target) (whole_run (spelled self.now.target))) }
     {
-        let opening = self.seek()?;
+        let mut entries = Entries::new();
+        let opening = self.seek(&mut entries)?;
         let stem = opening.script.stem(self.target.as_bytes());
-        let mut run = Run::new(stem, &opening.text, opening.entries);
+        let mut run = Run::new(stem, &opening.text, entries);
         self.drive(&mut run)
     }
 

@@ -14,6 +14,7 @@ use names::Name;
 
 impl Entries {
     /// No entries.
+    #[inline(never)]
     pub fn new() -> Entries
         ensures { entries result ≡ [] }
     {

@@ -31,9 +31,10 @@ evaluate-returns t c =
     let C = opened c.args.self.now.chain in
     let T = spelled c.args.self.now.target in
     let o = c.in_ok-opening.opening in
+    let es = entries c.seek.new.entries in
     let s : c.stem-stem.result.now ≡ (candidate T o.script).stem = c.stem-stem.ensures ∙ ap (take o.script.stem_len) c.as_bytes.ensures.value in
-    c.drive.ensures ∙ ap as_answer (opened-run L C T c.stem-stem.result.now (content o.text) (entries o.entries) (view c.new-run.result) c.new-run.ensures
-    (ap (λ (x : Bytes). begins x (content o.text) (entries o.entries)) s ∙ c.in_ok-opening.ensures))
+    c.drive.ensures ∙ ap as_answer (opened-run L C T c.stem-stem.result.now (content o.text) es (view c.new-run.result) c.new-run.ensures
+    (ap (λ (x : Bytes). begins x (content o.text) es) s ∙ c.in_ok-opening.ensures))
 
 pub fetch-returns-then-is_full : goal.fetch-returns-then-is_full
 fetch-returns-then-is_full t c =
