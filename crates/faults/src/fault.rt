@@ -6,7 +6,7 @@ ghost use Rattle.faults.specs.declared.cause.Cause.TheVariants.{Script as FromSc
 
 use crate::cause::Cause;
 use crate::frame::Frame;
-use crate::script_fault::ScriptFault;
+pub use crate::script_fault::ScriptFault;
 use crate::trail::Trail;
 use names::Name;
 
