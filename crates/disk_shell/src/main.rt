@@ -40,13 +40,13 @@ fn call(rt: &HostRuntime, stack: &mut Stack, call: Call, text: &str) -> io::Resu
     print(rt, reply, &buffer)
 }
 
-fn answer(rt: &HostRuntime, stack: Option<Stack>, line: &str) -> io::Result<Option<Stack>> {
+// The disk is lent: it may have some thousand bytes, and handed on it would be moved at each line.
+fn answer(rt: &HostRuntime, stack: &mut Option<Stack>, line: &str) -> io::Result<()> {
     let mut words = Words::new(line);
     let Some(command) = parse(&mut words) else {
-        println!(rt; "garbled")?;
-        return Ok(stack);
+        return println!(rt; "garbled");
     };
-    match (command, stack) {
+    match (command, stack.as_mut()) {
         (
             Command::Start {
                 layers,
@@ -57,28 +57,22 @@ fn answer(rt: &HostRuntime, stack: Option<Stack>, line: &str) -> io::Result<Opti
         ) => {
             let mut fresh = Stack::new(rt.alloc(), layers, bytes as usize, charge)?;
             call(rt, &mut fresh, Call::Count, "")?;
-            Ok(Some(fresh))
+            *stack = Some(fresh);
+            Ok(())
         }
-        (Command::Call(asked), Some(mut stack)) => {
-            call(rt, &mut stack, asked, words.text().unwrap_or(""))?;
-            Ok(Some(stack))
-        }
-        (Command::Restart { charge, pick }, Some(mut stack)) => {
+        (Command::Call(asked), Some(stack)) => call(rt, stack, asked, words.text().unwrap_or("")),
+        (Command::Restart { charge, pick }, Some(stack)) => {
             stack.restart(charge, pick);
-            println!(rt; "ok")?;
-            Ok(Some(stack))
+            println!(rt; "ok")
         }
-        (_, None) => {
-            println!(rt; "no disk")?;
-            Ok(None)
-        }
+        (_, None) => println!(rt; "no disk"),
     }
 }
 
 fn main(rt: HostRuntime) -> io::Result<()> {
     let mut stack = None;
     for line in rt.lines(rt.alloc()) {
-        stack = answer(&rt, stack, line?.as_str())?;
+        answer(&rt, &mut stack, line?.as_str())?;
     }
     Ok(())
 }
