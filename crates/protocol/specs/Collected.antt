@@ -30,14 +30,14 @@ line_of Over bs = None
 
 -- the line: ended, or as far as it has come
 abbrev pub held : LineBuffer → Line
-held s = elim s.last [ Open l ↦ line_of l s.bytes.items | Ended l ↦ line_of l s.bytes.items ]
+held s = line_of s.extent s.bytes.items
 
 -- what the next byte joins
 abbrev pub begun : LineBuffer → Line
-begun s = elim s.last [ Open l ↦ line_of l s.bytes.items | Ended l ↦ Some [] ]
+begun s = elim s.progress [ Open ↦ held s | Ended ↦ Some [] ]
 
 abbrev pub is_open : LineBuffer → Bool
-is_open s = elim s.last [ Open l ↦ true | Ended l ↦ false ]
+is_open s = elim s.progress [ Open ↦ true | Ended ↦ false ]
 
 -- the lines that a buffer will give of the bytes
 abbrev pub to_come : LineBuffer → Bytes → List Line

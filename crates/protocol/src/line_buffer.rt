@@ -1,4 +1,4 @@
-ghost use Rattle.std.specs.Prelude.{◌≡◌, ◌≤◌, true, false, [], ◌∷◌, length, if◌then◌else◌, IfSome, ◌==◌};
+ghost use Rattle.std.specs.Prelude.{◌≡◌, ◌≤◌, true, [], ◌∷◌, length, if◌then◌else◌, IfSome, ◌==◌};
 ghost use Rattle.std.specs.Option.{option_map};
 ghost use Rattle.names.specs.Limits.{line_max};
 ghost use Rattle.names.specs.Names.{Bytes};
@@ -16,21 +16,22 @@ enum Extent {
     Over,
 }
 
-/// A line, as far as it has come.
+/// How far a line has come.
 #[derive(Clone, Copy)]
 enum Progress {
     /// Its end is still to come.
-    Open(Extent),
+    Open,
     /// Its end has come, and the next byte begins another line.
-    Ended(Extent),
+    Ended,
 }
 
 /// The lines of an input, collected byte by byte in fixed memory.
-// The bytes stand beside how far the line has come and not in it, so that a line's end moves none of them.
+// The bytes stand beside the rest and not in an enum, so that a line's end moves none of them.
 #[derive(Drop)]
 pub struct LineBuffer {
     bytes: InlineVec<u8, LINE_MAX>,
-    last: Progress,
+    extent: Extent,
+    progress: Progress,
 }
 
 impl LineBuffer {
@@ -43,7 +44,8 @@ impl LineBuffer {
     {
         LineBuffer {
             bytes: InlineVec::new(0),
-            last: Progress::Open(Extent::Within),
+            extent: Extent::Within,
+            progress: Progress::Open,
         }
     }
 
@@ -51,9 +53,10 @@ impl LineBuffer {
     fn begin(&mut self)
         ensures { (held self.new ≡ begun self.old) × (is_open self.new ≡ true) }
     {
-        if let Progress::Ended(_) = self.last {
+        if let Progress::Ended = self.progress {
             self.bytes.clear();
-            self.last = Progress::Open(Extent::Within);
+            self.extent = Extent::Within;
+            self.progress = Progress::Open;
         }
     }
 
@@ -63,19 +66,10 @@ impl LineBuffer {
         requires { is_open self.old ≡ true }
         ensures { (held self.new ≡ grown (held self.old) byte) × (is_open self.new ≡ true) }
     {
-        if let Progress::Open(Extent::Within) = self.last {
+        if let Extent::Within = self.extent {
             if self.bytes.try_push(byte).is_err() {
-                self.last = Progress::Open(Extent::Over);
+                self.extent = Extent::Over;
             }
-        }
-    }
-
-    // The line has its end.
-    fn end(&mut self)
-        ensures { (held self.new ≡ held self.old) × (is_open self.new ≡ false) }
-    {
-        if let Progress::Open(extent) = self.last {
-            self.last = Progress::Ended(extent);
         }
     }
 
@@ -87,7 +81,7 @@ impl LineBuffer {
     {
         self.begin();
         if byte == NEWLINE {
-            self.end();
+            self.progress = Progress::Ended;
             return true;
         }
         self.add(byte);
@@ -99,11 +93,9 @@ impl LineBuffer {
         ensures value { option_map (λ x. x.now) result ≡ held self.now }
         ensures short { IfSome result (λ x. length x.now ≤ line_max) }
     {
-        match self.last {
-            Progress::Open(Extent::Within) | Progress::Ended(Extent::Within) => {
-                Some(self.bytes.as_slice())
-            }
-            Progress::Open(Extent::Over) | Progress::Ended(Extent::Over) => None,
+        match self.extent {
+            Extent::Within => Some(self.bytes.as_slice()),
+            Extent::Over => None,
         }
     }
 
@@ -111,10 +103,10 @@ impl LineBuffer {
     pub fn ends_within_line(&self) -> bool
         ensures { to_come self.now [] ≡ (if result then held self.now ∷ [] else []) }
     {
-        match self.last {
-            Progress::Open(Extent::Within) => !self.bytes.is_empty(),
-            Progress::Open(Extent::Over) => true,
-            Progress::Ended(_) => false,
+        match (self.progress, self.extent) {
+            (Progress::Open, Extent::Within) => !self.bytes.is_empty(),
+            (Progress::Open, Extent::Over) => true,
+            (Progress::Ended, _) => false,
         }
     }
 }
